@@ -138,9 +138,13 @@ refusedRun g v = record { number = v .number; place = v .place; steps = 0; store
 unfoldable pub run : Given → Outcome
 run g = cond (eqb (entryRefusal g .number) 0) (outcomeOf g (execution (headerOf (g .image)) (partsOf (g .image)) g)) (refusedRun g (entryRefusal g))
 
+-- What a slice of this length holds of a list: the first that fit, then zeros.
+abbrev pub fitted : ℕ → List ℕ → List ℕ
+fitted room xs = take room xs ++ replicate (room - length xs) 0
+
 -- "The trace slice holds the first entries that fit, then zeros."
 unfoldable pub traceAfter : Given → List ℕ
-traceAfter g = take (g .room) (run g .events) ++ replicate (g .room - length (run g .events)) 0
+traceAfter g = fitted (g .room) (run g .events)
 
 -- "Work is all 0 after every run, 19 included."
 unfoldable pub workAfter : Given → List ℕ

@@ -149,9 +149,7 @@ exprOf s n r at =
     (unary n complement (at (r .a) .asExpr)))))))
 
 unfoldable pub lvalueOf : ℕ → Node → (ℕ → Reading) → LValue
-lvalueOf n r at =
-    cond (eqb (r .kind) 21) (whole n (r .a))
-    (cond (eqb (r .kind) 22) (entry n false (r .a) (at (r .b) .asExpr)) (entry n true (r .a) (at (r .b) .asExpr)))
+lvalueOf n r at = cond (eqb (r .kind) 21) (whole n (r .a)) (entry n (eqb (r .kind) 23) (r .a) (at (r .b) .asExpr))
 
 -- "1 empty; 2 update, target a, value b; 3 swap a, b; 4 conditional swap, condition a, targets b, c; 5 if a then b else c;
 -- 6 for, counter variable a, first bound b, second bound c, body d; 7 call and 8 uncall, procedure a, first argument b or missing;

@@ -1,0 +1,15 @@
+pub mod Assemble
+pub mod Turns
+pub mod Verdicts
+pub mod Records
+pub mod Cells
+pub mod Entry
+pub mod Growth
+pub mod Alike
+pub mod SecrecyRules
+pub mod AlikeReadings
+pub mod AlikeStatements
+pub mod PlainTrees
+pub mod SafeWalk
+pub mod AlikeProcedures
+pub mod Secret

@@ -1,0 +1,1 @@
+// Laws of words, over the definitions of rules: they stand in specs/.
