@@ -15,11 +15,11 @@ use Rattle.rules.specs.Tree.{bodyOf}
 use Rattle.rules.specs.Walk.{typeOf}
 use Rattle.rules.specs.Machine.{Slot, Env, Command, choose}
 use Rattle.rules.specs.Run.{home, storeSlots, envOf, callsBelow, lastOf, sum}
-use Rattle.laws.specs.Records.{Sound, parameter-is}
+use Rattle.laws.specs.Records.{Single, Sound, parameter-is}
 use Rattle.laws.specs.Cells.{In, env-parameter, env-local, env-each, room-one, store-count, store-cells, store-hidden, ofCell, ofCell-store, ofCell-home}
 use Rattle.laws.specs.Growth.{grows-callsBelow}
 use Rattle.laws.specs.Alike.{Alike, done-alike}
-use Rattle.laws.specs.SecrecyRules.{secretName, Single}
+use Rattle.laws.specs.SecrecyRules.{secretName}
 use Rattle.laws.specs.PlainTrees.{Safe, PlainStmt}
 use Rattle.laws.specs.SafeWalk.{safe-body}
 use Rattle.laws.specs.AlikeReadings.{SafeSlots, slot-at, slots-each, SafeEnv}

@@ -13,10 +13,11 @@ use Rattle.rules.specs.Image.{Parts, Procedure, isArray}
 use Rattle.rules.specs.Tree.{Expr, number, constant, variable, element, size, binary, unary, LValue, whole, entry, root}
 use Rattle.rules.specs.Walk.{typeOf, secret}
 use Rattle.rules.specs.Machine.{Slot, noSlot, Env, Found, found, fault, inside, load, divided, eval, address, lent, arguments, zeros, cleared, blockEnd, stop}
+use Rattle.laws.specs.Records.{Single}
 use Rattle.laws.specs.Verdicts.{nor-left, nor-right}
 use Rattle.laws.specs.Cells.{In}
 use Rattle.laws.specs.Alike.{FoundAlike, values, faults, andThen-alike, Agree, Alike, choose-alike, leftover-alike, stop-alike}
-use Rattle.laws.specs.SecrecyRules.{secretName, Single, SafeExpr, SafeIndex, SafeTarget, SafeArguments}
+use Rattle.laws.specs.SecrecyRules.{secretName, SafeExpr, SafeIndex, SafeTarget, SafeArguments}
 
 inside-alike : (n : ℕ) (x : Slot) (v w : ℕ) → v ≡ w → FoundAlike (λ i j. (i ≡ j) × In x i) (inside n x v) (inside n x w)
 unfolding inside

@@ -11,10 +11,11 @@ use Rattle.rules.specs.Image.{Parts, Procedure, procedureOf}
 use Rattle.rules.specs.Tree.{Expr, LValue, Stmt, empty, update, swap, conditionalSwap, branch, loop, call, block, nothing, list, root}
 use Rattle.rules.specs.Walk.{secret}
 use Rattle.rules.specs.Machine.{Slot, Env, Command, done, eval, address, reading, inOrder, counted, Calls, firstBound, exec}
+use Rattle.laws.specs.Records.{Single}
 use Rattle.laws.specs.Cells.{In}
 use Rattle.laws.specs.Growth.{Steps, CallsGrow, steps-exec, steps-blockEnd}
 use Rattle.laws.specs.Alike.{Alike, both-alike, step-alike, reading-alike, done-alike, choose-alike, change-alike, exchange-alike, counted-alike}
-use Rattle.laws.specs.SecrecyRules.{secretName, Single, SafeExpr, SafeTarget, SafeStmt}
+use Rattle.laws.specs.SecrecyRules.{secretName, SafeExpr, SafeTarget, SafeStmt}
 use Rattle.laws.specs.AlikeReadings.{SafeSlots, SafeEnv, base-in, eval-alike, address-alike, target-index, arguments-alike, blockEnd-alike}
 
 module _ (isHidden : ℕ → Bool) (s : Parts) where

@@ -44,8 +44,8 @@ unfoldable pub assembled : List (List ℕ) → List (List ℕ) → List (List �
 assembled procedures variables nodes numbers =
     words (1 ∷ length procedures ∷ length variables ∷ length nodes ∷ length numbers ∷ [])
     ++ (words (20
-      ∷ (20 + length procedures * 8)
-      ∷ (20 + length procedures * 8 + length variables * 6)
-      ∷ (20 + length procedures * 8 + length variables * 6 + length nodes * 12)
-      ∷ (20 + length procedures * 8 + length variables * 6 + length nodes * 12 + length numbers * 8) ∷ [])
+    ∷ (20 + length procedures * 8)
+    ∷ (20 + length procedures * 8 + length variables * 6)
+    ∷ (20 + length procedures * 8 + length variables * 6 + length nodes * 12)
+    ∷ (20 + length procedures * 8 + length variables * 6 + length nodes * 12 + length numbers * 8) ∷ [])
     ++ (joined procedures ++ (joined variables ++ (joined nodes ++ constants numbers))))

@@ -1,22 +1,22 @@
 -- Where the cells are: a procedure's variables live at its arguments or at home, and homes and store are numbered without overlap.
 -- A cell of a slot is a number i with `In slot i`; whatever is so of all variables is so of every cell by the variable that it belongs to.
-use Prim.Native.Nat.{ℕ, zero, suc, _+_, _-_, _*_, _^_, _≤_, _<_}
-use mathlib.Core.List.{List, [], _∷_, _++_}
-use mathlib.Core.Path.{_≡_, refl, sym, _∙_, ap}
-use mathlib.Core.Bool.{Bool, true, false, not, cond, _&&_, _||_}
-use mathlib.Core.Logic.{_⊎_, inl, inr, ⊎-elim, dite}
+use Prim.Native.Nat.{ℕ, zero, suc, _+_, _-_, _≤_, _<_}
+use mathlib.Core.List.{List, [], _∷_}
+use mathlib.Core.Path.{_≡_, refl, _∙_, ap}
+use mathlib.Core.Bool.{Bool, true, false, not, cond, _||_}
+use mathlib.Core.Logic.{_⊎_, inl, inr, dite}
 use native.Mathlib.Omega.{arith}
 use native.Mathlib.Decide.{ℕ-discrete, decLt, decLe}
 use lib.ListN.{length, getD, replicate, length-append, length-replicate, getD-replicate, List·getD-append}
 use lib.Seq.{getD-append-add}
-use lib.Dec.{T, eqb, leb, ltb, eqb→eq, ltb→lt, lt→ltb, nltb→le, leb→le, le→leb, T-not, not-T}
-use Rattle.rules.specs.Image.{Header, Parts, Procedure, procedureOf, Variable, isArray, isConstant, isSecret}
+use lib.Dec.{T, leb, ltb, eqb→eq, ltb→lt, lt→ltb, nltb→le, leb→le, le→leb, not-T}
+use Rattle.rules.specs.Image.{Header, Parts, Procedure, Variable, isArray, isConstant, isSecret}
 use Rattle.rules.specs.Form.{search, isParameter}
 use Rattle.rules.specs.Walk.{typeOf}
 use Rattle.rules.specs.Machine.{Slot, noSlot, Env}
 use Rattle.rules.specs.Run.{roomOf, roomBefore, home, storeSlots, envOf, lastOf, sum, perCell}
-use Rattle.laws.specs.Verdicts.{is-true, is-false, decided, or-cases, search-is, search-to, search-before}
-use Rattle.laws.specs.Records.{Placed, Typed, ranges-ordered, parameter-is}
+use Rattle.laws.specs.Verdicts.{is-true, is-false, search-is, search-before}
+use Rattle.laws.specs.Records.{Typed}
 
 abbrev pub In : Slot → ℕ → Type 0
 In x i = (x .base ≤ i) × (i < x .base + x .cells)

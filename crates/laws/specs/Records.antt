@@ -1,20 +1,27 @@
 -- What an accepted image says of its records: where each procedure's variables stand, what each variable is, and that each body was walked.
-use Prim.Native.Nat.{ℕ, zero, suc, _+_, _-_, _≤_, _<_}
+use Prim.Native.Nat.{ℕ, zero, suc, _+_, _≤_, _<_}
 use mathlib.Core.List.{List}
-use mathlib.Core.Path.{_≡_, refl, sym, _∙_, ap}
+use mathlib.Core.Path.{_≡_}
 use mathlib.Core.Bool.{Bool, true, false, not, cond, _&&_, _||_}
-use mathlib.Core.Logic.{_⊎_, inl, inr, ⊎-elim, dite}
+use mathlib.Core.Logic.{⊎-elim, dite}
 use native.Mathlib.Omega.{arith}
 use native.Mathlib.Decide.{ℕ-discrete}
 use lib.ListN.{length}
-use lib.Dec.{T, eqb, leb, ltb, eqb→eq, leb→le, ltb→lt, le→leb, lt→ltb, nleb→lt, not-T, T-not, lit<, lit≤}
+use lib.Dec.{T, eqb, leb, ltb, eqb→eq, leb→le, ltb→lt, le→leb, not-T, T-not, lit<}
 use Rattle.rules.specs.Words.{Binary}
-use Rattle.rules.specs.Image.{Header, headerOf, Parts, partsOf, Procedure, procedureOf, Variable, variableOf, isArray, isConstant, isCounter, isSecret}
-use Rattle.rules.specs.Form.{Verdict, given, _then_, search, lowest, formatRefusal, countsFit, partsFollow, layoutRefusal, sharedBefore, procedureFits, procedureRefusal, owner, isParameter, extraFits, sizeFits, variableFits, variableRefusal, nodeRefusal}
-use Rattle.rules.specs.Tree.{treeRefusal, bodyOf}
+use Rattle.rules.specs.Image.{Header, headerOf, Parts, partsOf, Procedure, procedureOf, variableOf, isArray, isConstant}
+use Rattle.rules.specs.Form.{formatRefusal, countsFit, partsFollow, layoutRefusal, sharedBefore, procedureFits, procedureRefusal, owner, isParameter, extraFits, sizeFits, variableFits, variableRefusal}
+use Rattle.rules.specs.Tree.{bodyOf}
 use Rattle.rules.specs.Walk.{typeOf, bodyRefusal, walkRefusal}
 use Rattle.rules.specs.Check.{formRefusal, verdictFor}
-use Rattle.laws.specs.Verdicts.{Accepted, and-iff, and-left, and-right, or-cases, nor-left, equal-test, given-holds, then-both, lowest-passed, search-is}
+use Rattle.laws.specs.Verdicts.{Accepted, and-iff, or-cases, given-holds, then-both, lowest-passed, search-is}
+
+-- The procedure's own names, and those of them that have one cell: scalars and counters.
+abbrev pub Own : Procedure → ℕ → Type 0
+Own q x = (q .first ≤ x) × (x < q .first + q .count)
+
+abbrev pub Single : Parts → Procedure → ℕ → Type 0
+Single s q x = T (not (isArray (typeOf s x))) × T (not (isConstant (typeOf s x))) × (q .first ≤ x) × (x < q .first + q .count)
 
 -- ---- procedures
 
@@ -101,7 +108,7 @@ pub typed : (h : Header) (s : Parts) → Accepted (variableRefusal h s) → (x :
 unfolding variableRefusal variableFits extraFits
 typed h s e x l =
     let t : T (variableFits h (isParameter h (s .procedures) x) (variableOf (s .variables) x)) =
-        lowest-passed 4 (λ x. variableFits h (isParameter h (s .procedures) x) (variableOf (s .variables) x)) 0 (h .variables) (lit< tt) e x (omega arith) (omega arith) in
+    lowest-passed 4 (λ x. variableFits h (isParameter h (s .procedures) x) (variableOf (s .variables) x)) 0 (h .variables) (lit< tt) e x (omega arith) (omega arith) in
     let a = simp and-iff at t in
     let z = sizes-fit (typeOf s x .size) (a .1 .1 .0) in
     record {
@@ -142,7 +149,7 @@ sound forbidden image e =
     let d = then-both (procedureRefusal (headerOf image) (partsOf image)) _ (c .0) in
     let f = then-both (variableRefusal (headerOf image) (partsOf image)) _ (d .1) in
     let t : T (countsFit (headerOf image) && partsFollow (headerOf image) (length image)) =
-        given-holds 2 0 (countsFit (headerOf image) && partsFollow (headerOf image) (length image)) (lit< tt) (b .0) in
+    given-holds 2 0 (countsFit (headerOf image) && partsFollow (headerOf image) (length image)) (lit< tt) (b .0) in
     record {
       some = leb→le 1 (headerOf image .procedures) (let r = simp and-iff at t in r .0 .0 .0);
       procedure = placed (headerOf image) (partsOf image) (d .0);

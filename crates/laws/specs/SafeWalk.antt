@@ -14,8 +14,8 @@ use Rattle.rules.specs.Form.{Verdict, given, _then_}
 use Rattle.rules.specs.Tree.{member, Expr, number, constant, variable, element, size, binary, unary, LValue, whole, entry, Stmt, empty, update, swap, conditionalSwap, branch, loop, call, block, nothing, list, range, root}
 use Rattle.rules.specs.Walk.{every, typeOf, secret, secretRoot, passesArray, named, elementRefusal, exprRefusal, targetRefusal, argumentRefusal, argumentsRefusal, declarable, sameType, argumentsFit, callFits, stmtRefusal, bodyRefusal}
 use Rattle.laws.specs.Verdicts.{Accepted, and-iff, and-left, nor-left, nor-right, same-equal, unequal-test, given-passed, given-holds, then-both, then-accepted, then-first, member-cases, append-cases, range-inside, every-each}
-use Rattle.laws.specs.Records.{Placed, Typed}
-use Rattle.laws.specs.SecrecyRules.{Own, secretName, Single, SafeExpr, SafeIndex, SafeTarget, SafeArguments, SafeStmt}
+use Rattle.laws.specs.Records.{Own, Single, Placed, Typed}
+use Rattle.laws.specs.SecrecyRules.{secretName, SafeExpr, SafeIndex, SafeTarget, SafeArguments, SafeStmt}
 use Rattle.laws.specs.PlainTrees.{Safe, PlainExpr, PlainLValue, PlainArguments, PlainStmt}
 
 -- `simp then-iff at e` takes a whole chain apart.

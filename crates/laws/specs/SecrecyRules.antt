@@ -10,13 +10,7 @@ use Rattle.rules.specs.Words.{divides}
 use Rattle.rules.specs.Image.{Parts, Procedure, procedureOf, isArray, isConstant, isSecret}
 use Rattle.rules.specs.Tree.{Expr, number, constant, variable, element, size, binary, unary, LValue, whole, entry, Stmt, empty, update, swap, conditionalSwap, branch, loop, call, block, nothing, list, root}
 use Rattle.rules.specs.Walk.{typeOf, secret}
-
--- The procedure's own names, and those of them that have one cell: scalars and counters.
-abbrev pub Own : Procedure → ℕ → Type 0
-Own q x = (q .first ≤ x) × (x < q .first + q .count)
-
-abbrev pub Single : Parts → Procedure → ℕ → Type 0
-Single s q x = T (not (isArray (typeOf s x))) × T (not (isConstant (typeOf s x))) × (q .first ≤ x) × (x < q .first + q .count)
+use Rattle.laws.specs.Records.{Own, Single}
 
 module _ (s : Parts) where
   abbrev pub secretName : ℕ → Bool

@@ -19,7 +19,7 @@ use Rattle.rules.specs.Run.{Given, Outcome, roomBefore, home, storeSlots, lastO
 use Rattle.laws.specs.Verdicts.{Accepted, equal-test, unequal-test}
 use Rattle.laws.specs.Records.{Sound, sound}
 use Rattle.laws.specs.Cells.{store-count, ofCell, ofCell-stored, perCell-each}
-use Rattle.laws.specs.Entry.{WellFormed, LengthsFit, lengths-fit, entry-is, room-same, run-is}
+use Rattle.laws.specs.Entry.{WellFormed, StoreFits, store-read, length-scalar, entry-is, room-same, run-is}
 use Rattle.laws.specs.Growth.{Begins, begins-refl, last, Stepped, grows-callsBelow}
 use Rattle.laws.specs.Alike.{StatesAlike, OutsAlike, finished, refused, left27, right27}
 use Rattle.laws.specs.PlainTrees.{safe-bodies}
@@ -107,8 +107,8 @@ module _ (g : Given) (τ : List ℕ) (ok : Accepted (verdict (g .image))) (safe 
   unfolding verdict
   known = sound slow (g .image) ok
 
-  fit : LengthsFit header parts (g .lengths) (g .store)
-  fit = lengths-fit header parts (g .lengths) (g .store) G
+  fit : StoreFits header parts (g .lengths) (g .store)
+  fit = store-read header parts (g .lengths) (g .store) G
 
   -- The theorem's public cells are those of the laws.
   public-seen : (i : ℕ) → i < sum (g .lengths) → getD (secrecies header parts (g .lengths)) i 0 ≡ 0 → T (not (isHidden i))
@@ -134,7 +134,7 @@ module _ (g : Given) (τ : List ℕ) (ok : Accepted (verdict (g .image))) (safe 
     long = length-append (g .store) locals ∙ ap (λ n. n + length locals) (agree .long) ∙ sym (length-append τ locals);
     agree = λ i p. dite (decLt i (length (g .store)))
         (λ l. let m : i < length τ = omega (arith, agree .long) in
-        List·getD-append (g .store) locals 0 i l ∙ agree .cell i l (seen-public i (omega (arith, fit .total)) p) ∙ sym (List·getD-append τ locals 0 i m))
+        List·getD-append (g .store) locals 0 i l ∙ agree .cell i l (seen-public i (omega (arith, fit .whole)) p) ∙ sym (List·getD-append τ locals 0 i m))
         (λ l. let d = i - length (g .store) in
         let e : i ≡ length (g .store) + d = omega arith in
         let f : i ≡ length τ + d = omega (arith, agree .long) in
@@ -145,10 +145,10 @@ module _ (g : Given) (τ : List ℕ) (ok : Accepted (verdict (g .image))) (safe 
 
   execution-alike : OutsAlike isHidden (execution header parts g) (execution header parts other)
   unfolding execution
-  execution-alike = rw (← fit .total, ← lengths-fit header parts (g .lengths) τ H .total)
+  execution-alike = rw (← fit .whole, ← store-read header parts (g .lengths) τ H .whole)
       (calls-alike slow divides-slow header parts known (safe-bodies (g .image) safe) (g .lengths) (header .procedures) (omega arith) (header .procedures - 1) (g .direction)
       (storeSlots parts (lastOf header parts .first) 0 (g .lengths)) (store-count parts (lastOf header parts .first) 0 (g .lengths) ∙ fit .count)
-      (store-safe slow divides-slow header parts known (safe-bodies (g .image) safe) (g .lengths) (fit .scalar)) (begin (g .store)) (begin τ) begin-alike)
+      (store-safe slow divides-slow header parts known (safe-bodies (g .image) safe) (g .lengths) (length-scalar parts (lastOf header parts .first) (g .lengths) (fit .fit))) (begin (g .store)) (begin τ) begin-alike)
 
   bounded : (σ : List ℕ) → last (execution header parts (storing g σ)) .left ≤ g .budget
   unfolding execution
@@ -161,7 +161,7 @@ module _ (g : Given) (τ : List ℕ) (ok : Accepted (verdict (g .image))) (safe 
     cell = λ i l e.
         let t = length-take (length (g .store)) (c .memory) in
         let m : i < length (g .store) = omega arith in
-        getD-take (length (g .store)) (c .memory) i 0 m ∙ r .agree i (public-seen i (omega (arith, fit .total)) e) ∙ sym (getD-take (length τ) (d .memory) i 0 (omega (arith, agree .long)));
+        getD-take (length (g .store)) (c .memory) i 0 m ∙ r .agree i (public-seen i (omega (arith, fit .whole)) e) ∙ sym (getD-take (length τ) (d .memory) i 0 (omega (arith, agree .long)));
   }
 
   ended : {o p : Out} → OutsAlike isHidden o p → last o .left ≤ g .budget → last p .left ≤ g .budget → Indistinct g (outcomeOf g o) (outcomeOf other p)

@@ -51,8 +51,8 @@ unfoldable pub summing : List ℕ
 summing =
     assembled (procedure 0 2 1 0 ∷ []) (u64 ∷ counter ∷ [])
     (plain 6 1 1 2 3 ∷ plain 20 0 0 0 0 ∷ plain 20 1 0 0 0 ∷ plain 9 0 0 4 0
-      ∷ node 2 1 5 6 0 0 7 ∷ plain 21 0 0 0 0 ∷ plain 21 1 0 0 0
-      ∷ node 2 1 8 9 0 0 missing ∷ plain 21 1 0 0 0 ∷ plain 20 2 0 0 0 ∷ []) (0 ∷ 4 ∷ 1 ∷ [])
+    ∷ node 2 1 5 6 0 0 7 ∷ plain 21 0 0 0 0 ∷ plain 21 1 0 0 0
+    ∷ node 2 1 8 9 0 0 missing ∷ plain 21 1 0 0 0 ∷ plain 20 2 0 0 0 ∷ []) (0 ∷ 4 ∷ 1 ∷ [])
 
 -- for (i = 3; 3) ;
 unfoldable pub still : List ℕ

@@ -2,14 +2,14 @@
 -- A test is read as a type, `T test` or `T (not test)`; a verdict is accepted when its number is 0.
 use Prim.Native.Nat.{ℕ, zero, suc, _+_, _≤_, _<_}
 use mathlib.Core.List.{List, [], _∷_, _++_}
-use mathlib.Core.Path.{_≡_, refl, sym, _∙_, ap}
+use mathlib.Core.Path.{_≡_, refl, _∙_, ap}
 use mathlib.Core.Bool.{Bool, true, false, not, cond, _&&_, _||_}
 use mathlib.Core.Logic.{_⊎_, inl, inr, ⊎-elim, dite, _↔_}
 use native.Mathlib.Omega.{arith}
 use native.Mathlib.Decide.{ℕ-discrete, decLt}
 use lib.ListN.{length, getD}
-use lib.Dec.{T, eqb, leb, ltb, eqb→eq, eqb-refl, leb→le, ltb→lt, le→leb, lt→ltb, T-not, not-T}
-use Rattle.rules.specs.Form.{Verdict, refused, accepted, given, _then_, search, lowest}
+use lib.Dec.{T, eqb, eqb→eq, eqb-refl, T-not, not-T}
+use Rattle.rules.specs.Form.{Verdict, accepted, given, _then_, search, lowest}
 use Rattle.rules.specs.Tree.{member, range}
 use Rattle.rules.specs.Walk.{every, share, repeats, same}
 
@@ -105,6 +105,11 @@ given-none number place false t = refl
 pub given-holds : (number place : ℕ) (fits : Bool) → 0 < number → Accepted (given number place (not fits)) → T fits
 given-holds number place fits some e = not-twice fits (given-passed number place (not fits) some e)
 
+pub given-fits : (number place : ℕ) (fits : Bool) → T fits → given number place (not fits) ≡ accepted
+unfolding given
+given-fits number place true t = refl
+given-fits number place false t = absurd t
+
 chosen-first : (b : Bool) (v w : Verdict) → (T b → v .number ≡ 0) → (T (not b) → v .number ≡ 0 → ⊥) → cond b w v .number ≡ 0 → (v .number ≡ 0) × (w .number ≡ 0)
 chosen-first true v w zero-first other e = (zero-first tt, e)
 chosen-first false v w zero-first other e = absurd (other tt e)
@@ -196,8 +201,7 @@ lowest-passed number passes i count some e j l h =
 pub lowest-none : (number : ℕ) (passes : ℕ → Bool) (i count : ℕ) → ((j : ℕ) → i ≤ j → j < i + count → T (passes j)) → lowest number passes i count ≡ accepted
 unfolding lowest
 lowest-none number passes i count all =
-    given-none number (search passes i count) (not (eqb (search passes i count) (i + count)))
-    (not-T (not (eqb (search passes i count) (i + count))) (λ t. T-not (eqb (search passes i count) (i + count)) t (equal-test (search passes i count) (i + count) (search-none passes i count all))))
+    given-fits number (search passes i count) (eqb (search passes i count) (i + count)) (equal-test (search passes i count) (i + count) (search-none passes i count all))
 
 -- ---- lists of names
 

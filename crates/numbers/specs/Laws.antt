@@ -88,18 +88,18 @@ pub rotatedLeft-word : (z r x w : ℕ) → r < z → z ≤ w → x < 2 ^ w → r
 unfolding rotatedLeft
 rotatedLeft-word z r x w turn within fits = dite (decLt z w)
     (λ short.
-      let whole : z - r + r ≡ z = omega arith in
-      let rest : w - (z - r) + (z - r) ≡ w = omega arith in
-      let below : suc (w - 1) ≡ w = omega arith in
-      let up = rw whole at (shl-lt (z - r) r (mod-lt x (pow-pos (z - r)))) in
-      let down : x / 2 ^ (z - r) < 2 ^ (w - (z - r)) = shr-lt (w - (z - r)) (z - r) (rw rest fits) in
-      let low-half : 2 ^ z ≤ 2 ^ (w - 1) = pow-mono (omega arith) in
-      let high-half : 2 ^ (w - (z - r)) ≤ 2 ^ (w - 1) = pow-mono (omega arith) in
-      let halves : 2 ^ w ≡ 2 ^ (w - 1) + 2 ^ (w - 1) = ap (λ n. 2 ^ n) (sym below) ∙ two-pow-succ (w - 1) in
-      omega arith)
+    let whole : z - r + r ≡ z = omega arith in
+    let rest : w - (z - r) + (z - r) ≡ w = omega arith in
+    let below : suc (w - 1) ≡ w = omega arith in
+    let up = rw whole at (shl-lt (z - r) r (mod-lt x (pow-pos (z - r)))) in
+    let down : x / 2 ^ (z - r) < 2 ^ (w - (z - r)) = shr-lt (w - (z - r)) (z - r) (rw rest fits) in
+    let low-half : 2 ^ z ≤ 2 ^ (w - 1) = pow-mono (omega arith) in
+    let high-half : 2 ^ (w - (z - r)) ≤ 2 ^ (w - 1) = pow-mono (omega arith) in
+    let halves : 2 ^ w ≡ 2 ^ (w - 1) + 2 ^ (w - 1) = ap (λ n. 2 ^ n) (sym below) ∙ two-pow-succ (w - 1) in
+    omega arith)
     (λ long.
-      let same : z ≡ w = omega arith in
-      subst (λ n. rotatedLeft z r x < 2 ^ n) same (rotatedLeft-fits z r x (le-of-lt turn) (subst (λ n. x < 2 ^ n) (sym same) fits)))
+    let same : z ≡ w = omega arith in
+    subst (λ n. rotatedLeft z r x < 2 ^ n) same (rotatedLeft-fits z r x (le-of-lt turn) (subst (λ n. x < 2 ^ n) (sym same) fits)))
 
 module _ (z r x : ℕ) (within : r ≤ z) (h : x < 2 ^ z) where
   rest : z - r ≤ z
