@@ -24,3 +24,8 @@ pub mod AlikeStatements
 pub mod SafeWalk
 pub mod AlikeProcedures
 pub mod Secret
+pub mod EntriesForest
+pub mod EntriesReadings
+pub mod Entries
+pub mod Unique
+pub mod CorollariesSecret

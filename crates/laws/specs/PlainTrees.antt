@@ -2,7 +2,7 @@
 -- and an element is unsafe only if some node is of kind 23.
 use Prim.Native.Nat.{ℕ, zero, suc, _+_, _-_, _≤_, _<_}
 use mathlib.Core.List.{List, [], _∷_}
-use mathlib.Core.Bool.{Bool, true, false, not, cond}
+use mathlib.Core.Bool.{Bool, false, not}
 use native.Mathlib.Omega.{arith}
 use lib.ListN.{getD}
 use lib.Dec.{T, eqb, eqb→eq}
@@ -11,7 +11,7 @@ use Rattle.rules.specs.Form.{search}
 use Rattle.rules.specs.Tree.{Expr, number, constant, variable, element, size, binary, unary, LValue, whole, entry, Stmt, empty, update, swap, conditionalSwap, branch, loop, call, block, nothing, list, Reading, noReading, exprOf, lvalueOf, stmtOf, readingOf, readings, readingAt, bodyOf}
 use Rattle.rules.specs.Walk.{typeOf}
 use Rattle.rules.specs.Check.{withoutUnsafe}
-use Rattle.laws.specs.Verdicts.{is-true, search-before}
+use Rattle.laws.specs.Verdicts.{is-true, either, search-before}
 
 -- `allowed` says which elements may stand in the tree: any, or only those that are not unsafe.
 module _ (s : Parts) (allowed : Bool → Type 0) where
@@ -50,10 +50,6 @@ module _ (s : Parts) (allowed : Bool → Type 0) where
     stmt : PlainStmt (r .asStmt)
     stmts : PlainStmt (r .asStmts)
     arguments : PlainArguments (r .asArguments)
-
-  either : {A : Type 0} (P : A → Type 0) (b : Bool) (x y : A) → (T b → P x) → (T (not b) → P y) → P (cond b x y)
-  either P true x y h k = h tt
-  either P false x y h k = k tt
 
   module _ (safe : allowed false) (n : ℕ) (r : Node) (fits : allowed (eqb (r .kind) 23)) (at : ℕ → Reading) (A : (m : ℕ) → Plain (at m)) where
     plain-expr : PlainExpr (exprOf s n r at)

@@ -10,8 +10,8 @@ use lib.ListN.{length}
 use lib.Dec.{T, eqb, leb, ltb, eqb→eq, leb→le, ltb→lt, le→leb, not-T, T-not, lit<}
 use Rattle.rules.specs.Words.{Binary}
 use Rattle.rules.specs.Image.{Header, headerOf, Parts, partsOf, Procedure, procedureOf, variableOf, isArray, isConstant}
-use Rattle.rules.specs.Form.{formatRefusal, countsFit, partsFollow, layoutRefusal, sharedBefore, procedureFits, procedureRefusal, owner, isParameter, extraFits, sizeFits, variableFits, variableRefusal}
-use Rattle.rules.specs.Tree.{bodyOf}
+use Rattle.rules.specs.Form.{formatRefusal, countsFit, partsFollow, layoutRefusal, sharedBefore, procedureFits, procedureRefusal, owner, isParameter, extraFits, sizeFits, variableFits, variableRefusal, nodeRefusal}
+use Rattle.rules.specs.Tree.{bodyOf, treeRefusal}
 use Rattle.rules.specs.Walk.{typeOf, bodyRefusal, walkRefusal}
 use Rattle.rules.specs.Check.{formRefusal, verdictFor}
 use Rattle.laws.specs.Verdicts.{Accepted, and-iff, or-cases, given-holds, then-both, lowest-passed, search-is}
@@ -136,6 +136,9 @@ walk-each forbidden h s p (suc count) e q l m =
 -- What an accepted image, with these header and parts, is known to hold.
 pub record Sound (forbidden : Binary → Bool) (h : Header) (s : Parts) : Type 0 where
   pub some : 1 ≤ h .procedures
+  pub few : h .nodes ≤ 4096
+  pub nodes : Accepted (nodeRefusal h s)
+  pub tree : Accepted (treeRefusal h s)
   pub procedure : (p : ℕ) → p < h .procedures → Placed h s p
   pub variable : (x : ℕ) → x < h .variables → Typed h s x
   pub walked : (p : ℕ) → p < h .procedures → Accepted (bodyRefusal forbidden s p (bodyOf h s p))
@@ -148,10 +151,14 @@ sound forbidden image e =
     let c = then-both (formRefusal (headerOf image) (partsOf image)) _ (b .1) in
     let d = then-both (procedureRefusal (headerOf image) (partsOf image)) _ (c .0) in
     let f = then-both (variableRefusal (headerOf image) (partsOf image)) _ (d .1) in
+    let i = then-both (nodeRefusal (headerOf image) (partsOf image)) _ (f .1) in
     let t : T (countsFit (headerOf image) && partsFollow (headerOf image) (length image)) =
     given-holds 2 0 (countsFit (headerOf image) && partsFollow (headerOf image) (length image)) (lit< tt) (b .0) in
     record {
       some = leb→le 1 (headerOf image .procedures) (let r = simp and-iff at t in r .0 .0 .0);
+      few = leb→le (headerOf image .nodes) 4096 (let r = simp and-iff at t in r .0 .1 .1 .0 .1);
+      nodes = i .0;
+      tree = i .1;
       procedure = placed (headerOf image) (partsOf image) (d .0);
       variable = typed (headerOf image) (partsOf image) (f .0);
       walked = λ p l. walk-each forbidden (headerOf image) (partsOf image) 0 (headerOf image .procedures) (c .1) p (omega arith) (omega arith);

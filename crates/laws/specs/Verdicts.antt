@@ -69,6 +69,11 @@ pub decided : (a : Bool) → T a ⊎ T (not a)
 decided true = inl tt
 decided false = inr tt
 
+-- A choice is as each of its sides is where it is taken.
+pub either : {A : Type 0} (P : A → Type 0) (b : Bool) (x y : A) → (T b → P x) → (T (not b) → P y) → P (cond b x y)
+either P true x y h k = h tt
+either P false x y h k = k tt
+
 pub same-equal : (a b : Bool) → T (same a b) → a ≡ b
 unfolding same
 same-equal true true t = refl
