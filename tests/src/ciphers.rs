@@ -62,6 +62,10 @@ pub fn ciphers() -> Vec<Cipher> {
     vec![tea_cipher(), rc5_cipher(), speck_cipher(), red_pike_cipher(), aes_cipher()]
 }
 
+pub fn named(name: &str) -> Cipher {
+    ciphers().into_iter().find(|cipher| cipher.name == name).expect("a known cipher")
+}
+
 fn tea_cipher() -> Cipher {
     Cipher {
         name: "tea",

@@ -1,12 +1,12 @@
-//! Random programs, damaged ones and runs: the laws of document 01 over the reference, and a comparison with a
-//! second implementation where one is given.
+//! Random programs, damaged ones and runs: the laws of document 01 over the reference, and the same laws over a second
+//! implementation and a comparison with it, where one is given.
 
 mod damage;
 mod generate;
 mod laws;
-mod random;
+pub(crate) mod random;
 
-use crate::cases::Given;
+use crate::cases::{Given, Outcome};
 use crate::image::{assemble, Raw};
 use crate::reference::{self, Answer, WORK_WORDS};
 use random::Random;
@@ -70,6 +70,14 @@ pub fn left_by(implementation: &dyn Implementation, given: &Given) -> Left {
     Left { answer, store, work, trace }
 }
 
+/// What a run leaves with room for its whole trace.
+pub fn outcome(implementation: &dyn Implementation, given: &Given) -> Outcome {
+    let entries = left_by(implementation, &Given { room: 0, ..given.clone() }).answer.entries as usize;
+    let Left { answer, store, trace, .. } = left_by(implementation, &Given { room: entries, ..given.clone() });
+    Outcome { number: answer.number, place: answer.place, steps: answer.steps, store, events: trace }
+}
+
+/// The last three count runs of both implementations.
 #[derive(Default, Debug)]
 pub struct Counts {
     pub images: u64,
@@ -128,20 +136,33 @@ fn one_run(
 ) -> Result<(), String> {
     let left = left_by(&Reference, given);
     *counts.answers.entry(left.answer.number).or_default() += 1;
-    if let Some(other) = second {
-        let differs = left_by(other, given);
-        if differs != left {
-            return Err(format!("{} {left:?} and {differs:?}", told(given)));
-        }
+    laws_hold(&Reference, random, given, raw, types, counts)?;
+    let Some(other) = second else {
+        return Ok(());
+    };
+    let differs = left_by(other, given);
+    if differs != left {
+        return Err(format!("{} {left:?} and {differs:?}", told(given)));
     }
+    laws_hold(other, random, given, raw, types, counts).map_err(|fault| format!("second implementation: {fault}"))
+}
+
+fn laws_hold(
+    by: &dyn Implementation,
+    random: &mut Random,
+    given: &Given,
+    raw: &Raw,
+    types: &[laws::Parameter],
+    counts: &mut Counts,
+) -> Result<(), String> {
     // Damaged bytes may have another secrecy than the records tell.
     let records_tell = raw.bytes() == given.image;
     let has_unsafe = raw.nodes.iter().any(|n| n.kind == UNSAFE_KIND);
-    laws::lent(given, &left)
-        .and_then(|()| laws::steps_and_budget(given))
-        .and_then(|()| laws::reversible(given, counts))
+    laws::lent(by, given, &left_by(by, given))
+        .and_then(|()| laws::steps_and_budget(by, given))
+        .and_then(|()| laws::reversible(by, given, counts))
         .and_then(|()| match records_tell && !has_unsafe {
-            true => laws::secret(random, given, types, counts),
+            true => laws::secret(by, random, given, types, counts),
             false => Ok(()),
         })
         .map_err(|fault| format!("{fault}: {}", told(given)))
@@ -184,43 +205,4 @@ fn random_run(random: &mut Random, image: &[u8], types: &[laws::Parameter]) -> G
 }
 
 #[cfg(test)]
-mod tests {
-    use super::*;
-
-    /// The reference, but leaving a word in work where a secret local was not cleared.
-    struct Forgetful;
-
-    impl Implementation for Forgetful {
-        fn check(&self, image: &[u8]) -> (u64, u64) {
-            Reference.check(image)
-        }
-
-        fn run(
-            &self,
-            image: &[u8],
-            inverse: bool,
-            lengths: &[u64],
-            store: &mut [u64],
-            work: &mut [u64],
-            budget: u32,
-            trace: &mut [u32],
-        ) -> Answer {
-            let answer = Reference.run(image, inverse, lengths, store, work, budget, trace);
-            if answer.number == 27 {
-                work[0] = 1;
-            }
-            answer
-        }
-    }
-
-    #[test]
-    fn laws_hold_over_the_reference() {
-        let counts = fuzz(400, 1, Some(&Reference)).unwrap();
-        assert!(counts.verdicts[&0] > 100);
-    }
-
-    #[test]
-    fn a_wrong_second_implementation_is_noticed() {
-        assert!(fuzz(2_000, 1, Some(&Forgetful)).is_err());
-    }
-}
+mod tests;

@@ -2,10 +2,12 @@
 
 mod form;
 mod machine;
+mod program;
 mod reader;
 mod walk;
 
 use machine::Machine;
+use program::Program;
 use reader::Image;
 
 /// A number of document 01's two tables and its place.
@@ -46,7 +48,8 @@ pub fn run(image: &[u8], inverse: bool, lengths: &[u64], store: &mut [u64], work
         Ok(image) => image,
         Err((number, place)) => return Answer { number, place, ..Answer::default() },
     };
-    let mut machine = Machine::new(&image, lengths, store, budget, trace);
+    let program = Program::new(&image);
+    let mut machine = Machine::new(&program, lengths, store, budget, trace);
     let outcome = machine.run_last(inverse);
     let (number, place) = outcome.err().unwrap_or((0, 0));
     if number == 0 {
@@ -105,7 +108,8 @@ fn first_large_cell(image: &Image, lengths: &[u64], store: &[u64]) -> Option<u64
 }
 
 fn local_cells(image: &Image) -> u64 {
-    (0..image.variables).filter(|v| !image.is_parameter(*v)).map(|v| image.variable(v).local_cells() as u64).sum()
+    let is_parameter = image.parameters();
+    (0..image.variables).filter(|v| !is_parameter[*v]).map(|v| image.variable(v).local_cells() as u64).sum()
 }
 
 #[cfg(test)]

@@ -1,8 +1,8 @@
-//! What document 01 demands of every run, tried on the reference.
+//! What document 01 demands of every run, tried on an implementation.
 
 use super::random::Random;
-use super::{Counts, Left};
-use crate::cases::{outcome, Given};
+use super::{outcome, Counts, Implementation, Left};
+use crate::cases::{Given, Outcome};
 use crate::image::Raw;
 use crate::reference::WORK_WORDS;
 
@@ -41,8 +41,8 @@ fn demand(holds: bool, fault: &str) -> Result<(), String> {
 }
 
 /// Store, work and trace as lent back.
-pub fn lent(given: &Given, left: &Left) -> Result<(), String> {
-    let whole = outcome(given);
+pub fn lent(by: &dyn Implementation, given: &Given, left: &Left) -> Result<(), String> {
+    let whole = outcome(by, given);
     let mut trace = whole.events.clone();
     trace.resize(given.room, 0);
     let answer = left.answer;
@@ -57,8 +57,8 @@ pub fn lent(given: &Given, left: &Left) -> Result<(), String> {
 }
 
 /// Steps are the trace's node entries; they suffice as budget, and one less is refused by 23.
-pub fn steps_and_budget(given: &Given) -> Result<(), String> {
-    let whole = outcome(given);
+pub fn steps_and_budget(by: &dyn Implementation, given: &Given) -> Result<(), String> {
+    let whole = outcome(by, given);
     let nodes = whole.events.iter().filter(|e| **e < FIRST_CELL_ENTRY).count();
     demand(nodes as u64 == whole.steps, "steps are not the node entries")?;
     demand(whole.steps <= u64::from(given.budget), "more steps than the budget")?;
@@ -66,29 +66,29 @@ pub fn steps_and_budget(given: &Given) -> Result<(), String> {
         return Ok(());
     }
     let exact = Given { budget: whole.steps as u32, ..given.clone() };
-    demand(outcome(&exact) == whole, "the steps as budget change the run")?;
-    let short = outcome(&Given { budget: exact.budget - 1, ..exact });
+    demand(outcome(by, &exact) == whole, "the steps as budget change the run")?;
+    let short = outcome(by, &Given { budget: exact.budget - 1, ..exact });
     demand(short.number == BUDGET && short.steps + 1 == whole.steps, "one step less is not 23")?;
     demand(whole.events.starts_with(&short.events), "a smaller budget changes the trace")
 }
 
 /// Demand 2.
-pub fn reversible(given: &Given, counts: &mut Counts) -> Result<(), String> {
-    let there = outcome(given);
+pub fn reversible(by: &dyn Implementation, given: &Given, counts: &mut Counts) -> Result<(), String> {
+    let there = outcome(by, given);
     if there.number != FINISHED {
         return Ok(());
     }
     counts.reversed += 1;
-    let back =
-        outcome(&Given { inverse: !given.inverse, store: there.store, works: WORK_WORDS, budget: there.steps as u32, ..given.clone() });
+    let budget = there.steps as u32;
+    let back = outcome(by, &Given { inverse: !given.inverse, store: there.store, works: WORK_WORDS, budget, ..given.clone() });
     demand(back.number == FINISHED, "the other direction is refused")?;
     demand(back.steps == there.steps, "the other direction takes other steps")?;
     demand(back.store == given.store, "the other direction does not restore the store")
 }
 
 /// Demand 3, over a second store that differs in secret cells only.
-pub fn secret(random: &mut Random, given: &Given, types: &[Parameter], counts: &mut Counts) -> Result<(), String> {
-    let first = outcome(given);
+pub fn secret(by: &dyn Implementation, random: &mut Random, given: &Given, types: &[Parameter], counts: &mut Counts) -> Result<(), String> {
+    let first = outcome(by, given);
     if (1..=21).contains(&first.number) {
         return Ok(());
     }
@@ -99,19 +99,23 @@ pub fn secret(random: &mut Random, given: &Given, types: &[Parameter], counts: &
             other.store[cell] = random.cell(*size);
         }
     }
-    let second = outcome(&other);
+    let second = outcome(by, &other);
     if first.number == SECRET_LEFT || second.number == SECRET_LEFT {
         counts.secret_prefixes += 1;
-        let (short, long) = if first.steps <= second.steps { (&first, &second) } else { (&second, &first) };
-        demand(long.events.starts_with(&short.events), "27: the shorter trace does not begin the longer")?;
-        return demand(short.steps < long.steps || short.events == long.events, "27: equal steps, other entries");
+        return shorter_begins_longer(&first, &second);
     }
     counts.secret_pairs += 1;
-    let told = |o: &crate::cases::Outcome| (o.number, o.place, o.steps);
+    let told = |o: &Outcome| (o.number, o.place, o.steps);
     demand(told(&first) == told(&second), "secrets change number, place or steps")?;
     demand(first.events == second.events, "secrets change the trace")?;
     let public_equal = (0..secret_cells.len()).all(|cell| secret_cells[cell].is_some() || first.store[cell] == second.store[cell]);
     demand(public_equal, "secrets change a public cell")
+}
+
+fn shorter_begins_longer(first: &Outcome, second: &Outcome) -> Result<(), String> {
+    let (short, long) = if first.steps <= second.steps { (first, second) } else { (second, first) };
+    demand(long.events.starts_with(&short.events), "27: the shorter trace does not begin the longer")?;
+    demand(short.steps < long.steps || short.events == long.events, "27: equal steps, other entries")
 }
 
 /// For each cell of the store its size where it is secret.

@@ -110,15 +110,15 @@ fn procedure_records(image: &Image) -> Result<(), Refusal> {
 }
 
 fn variable_records(image: &Image) -> Result<(), Refusal> {
-    match (0..image.variables).find(|v| !variable_fits(image, *v)) {
+    let is_parameter = image.parameters();
+    match (0..image.variables).find(|v| !variable_fits(image, *v, is_parameter[*v])) {
         Some(number) => Err((4, number as u64)),
         None => Ok(()),
     }
 }
 
-fn variable_fits(image: &Image, number: usize) -> bool {
+fn variable_fits(image: &Image, number: usize, parameter: bool) -> bool {
     let v = image.variable(number);
-    let parameter = image.is_parameter(number);
     let extra_fits = match v.kind {
         SCALAR_KIND | COUNTER_KIND => v.extra == 0,
         ARRAY_KIND if parameter => v.extra == 0,
@@ -135,7 +135,8 @@ fn variable_fits(image: &Image, number: usize) -> bool {
 }
 
 fn entry_of(kind: u8) -> Option<&'static (u8, u8, [Field; 4])> {
-    TABLE.iter().find(|entry| entry.0 == kind)
+    let row = if kind < NUMBER { kind.checked_sub(EMPTY)? } else { kind - NUMBER + BLOCK };
+    TABLE.get(usize::from(row)).filter(|entry| entry.0 == kind)
 }
 
 fn is_of(class: Class, kind: u8) -> bool {
@@ -185,20 +186,13 @@ fn next_fits(image: &Image, number: usize, node: &Node) -> bool {
 }
 
 /// The nodes that a node's fields refer to, each with whether it starts a chain.
-fn children(image: &Image, number: usize) -> Vec<(usize, bool)> {
-    let node = image.node(number);
-    let Some((_, _, fields)) = entry_of(node.kind) else {
-        return Vec::new();
-    };
-    let mut found = Vec::new();
-    for (field, value) in fields.iter().zip(node.fields) {
-        match field {
-            Field::Reference(_) => found.push((value, false)),
-            Field::ReferenceOrMissing(_) if value != MISSING => found.push((value, true)),
-            _ => {}
-        }
-    }
-    found
+fn children(node: &Node) -> impl Iterator<Item = (usize, bool)> + '_ {
+    let fields = entry_of(node.kind).map_or([Unused; 4], |entry| entry.2);
+    fields.into_iter().zip(node.fields).filter_map(|(field, value)| match field {
+        Field::Reference(_) => Some((value, false)),
+        Field::ReferenceOrMissing(_) if value != MISSING => Some((value, true)),
+        _ => None,
+    })
 }
 
 fn referred_once(image: &Image) -> Result<(), Refusal> {
@@ -206,13 +200,12 @@ fn referred_once(image: &Image) -> Result<(), Refusal> {
     for p in 0..image.procedures {
         references[image.procedure(p).body] += 1;
     }
-    for number in 0..image.nodes {
-        for (child, _) in children(image, number) {
+    for node in (0..image.nodes).map(|n| image.node(n)) {
+        for (child, _) in children(&node) {
             references[child] += 1;
         }
-        let next = image.node(number).next;
-        if next != MISSING {
-            references[next] += 1;
+        if node.next != MISSING {
+            references[node.next] += 1;
         }
     }
     match references.iter().position(|count| *count != 1) {
@@ -225,18 +218,20 @@ fn referred_once(image: &Image) -> Result<(), Refusal> {
 fn tree_shape(image: &Image) -> Result<(), Refusal> {
     let mut depth = vec![0usize; image.nodes];
     let mut chained = vec![false; image.nodes];
+    let mut is_body = vec![false; image.nodes];
     for p in 0..image.procedures {
-        depth[image.procedure(p).body] = 1;
+        let body = image.procedure(p).body;
+        depth[body] = 1;
+        is_body[body] = true;
     }
     for number in 0..image.nodes {
         let node = image.node(number);
-        let is_body = (0..image.procedures).any(|p| image.procedure(p).body == number);
-        let bad_body = is_body && !is_of(Class::Statement, node.kind);
+        let bad_body = is_body[number] && !is_of(Class::Statement, node.kind);
         let bad_next = node.next != MISSING && !chained[number];
         if bad_body || depth[number] > DEEPEST || bad_next {
             return Err((6, number as u64));
         }
-        for (child, starts_chain) in children(image, number) {
+        for (child, starts_chain) in children(&node) {
             depth[child] = depth[number] + 1;
             chained[child] = starts_chain;
         }

@@ -1,11 +1,13 @@
 //! The run itself: cells, steps, trace, and 23 to 28.
 
+use super::program::Program;
 use super::reader::*;
 use super::Refusal;
 
 /// A cell's trace entry is this plus its number.
 const CELL_ENTRY: u32 = 65_536;
 const TRUE: u64 = u64::MAX;
+const MOST_PARAMETERS: usize = 16;
 
 /// Where a variable's cells are: the first one and how many. Procedures never call themselves, so each
 /// variable has one place at a time.
@@ -16,7 +18,7 @@ struct Cells {
 }
 
 pub struct Machine<'a, 't> {
-    image: &'a Image<'a>,
+    program: &'a Program,
     cells: Vec<u64>,
     bound: Vec<Cells>,
     budget: u64,
@@ -26,11 +28,11 @@ pub struct Machine<'a, 't> {
 }
 
 impl<'a, 't> Machine<'a, 't> {
-    pub fn new(image: &'a Image<'a>, lengths: &[u64], store: &[u64], budget: u32, trace: &'t mut [u32]) -> Self {
+    pub fn new(program: &'a Program, lengths: &[u64], store: &[u64], budget: u32, trace: &'t mut [u32]) -> Self {
         let mut machine = Machine {
-            image,
+            program,
             cells: store.to_vec(),
-            bound: vec![Cells::default(); image.variables],
+            bound: vec![Cells::default(); program.variables.len()],
             budget: u64::from(budget),
             steps: 0,
             entries: 0,
@@ -42,7 +44,7 @@ impl<'a, 't> Machine<'a, 't> {
     }
 
     fn bind_parameters(&mut self, lengths: &[u64]) {
-        let first_parameter = self.image.last_procedure().first;
+        let first_parameter = self.program.last_procedure().first;
         let mut first = 0;
         for (i, length) in lengths.iter().enumerate() {
             let length = *length as usize;
@@ -52,23 +54,27 @@ impl<'a, 't> Machine<'a, 't> {
     }
 
     fn bind_locals(&mut self) {
-        for variable in 0..self.image.variables {
-            if self.image.is_parameter(variable) {
+        for (variable, v) in self.program.variables.iter().enumerate() {
+            if self.program.is_parameter[variable] {
                 continue;
             }
             let first = self.cells.len();
-            let length = self.image.variable(variable).local_cells();
+            let length = v.local_cells();
             self.bound[variable] = Cells { first, length };
             self.cells.resize(first + length, 0);
         }
     }
 
     pub fn run_last(&mut self, inverse: bool) -> Result<(), Refusal> {
-        self.statement(self.image.last_procedure().body, inverse)
+        self.statement(self.program.last_procedure().body, inverse)
     }
 
     pub fn store(&self, length: usize) -> &[u64] {
         &self.cells[..length]
+    }
+
+    fn node(&self, number: usize) -> &'a Node {
+        &self.program.nodes[number]
     }
 
     fn record(&mut self, entry: u32) {
@@ -94,9 +100,9 @@ impl<'a, 't> Machine<'a, 't> {
 
     fn statement(&mut self, number: usize, inverse: bool) -> Result<(), Refusal> {
         self.step(number)?;
-        let node = self.image.node(number);
+        let node = self.node(number);
         match node.kind {
-            UPDATE => self.update(&node, inverse),
+            UPDATE => self.update(node, inverse),
             SWAP => self.swap(node.a(), node.b(), true),
             SWAP_IF => {
                 let condition = self.evaluate(node.a())?;
@@ -107,10 +113,10 @@ impl<'a, 't> Machine<'a, 't> {
                 let branch = if condition != 0 { node.b() } else { node.c() };
                 self.statement(branch, inverse)
             }
-            FOR => self.for_loop(number, &node, inverse),
-            CALL => self.call(&node, inverse),
-            UNCALL => self.call(&node, !inverse),
-            BLOCK => self.block(number, &node, inverse),
+            FOR => self.for_loop(number, node, inverse),
+            CALL => self.call(number, node, inverse),
+            UNCALL => self.call(number, node, !inverse),
+            BLOCK => self.block(number, node, inverse),
             _ => Ok(()),
         }
     }
@@ -119,8 +125,8 @@ impl<'a, 't> Machine<'a, 't> {
         let cell = self.locate(node.a())?;
         let value = self.evaluate(node.b())?;
         self.touch(cell);
-        let root = self.image.node(node.a()).a();
-        let size = u32::from(self.image.variable(root).size);
+        let root = self.node(node.a()).a();
+        let size = u32::from(self.program.variables[root].size);
         self.cells[cell] = updated(node.operator, inverse, size, self.cells[cell], value);
         Ok(())
     }
@@ -153,18 +159,20 @@ impl<'a, 't> Machine<'a, 't> {
         Ok(())
     }
 
-    fn call(&mut self, node: &Node, inverse: bool) -> Result<(), Refusal> {
-        let callee = self.image.procedure(node.a());
-        let mut places = Vec::new();
-        for argument in self.image.chain(node.b()) {
-            places.push(self.argument(argument)?);
+    fn call(&mut self, number: usize, node: &Node, inverse: bool) -> Result<(), Refusal> {
+        let program = self.program;
+        let callee = &program.procedures[node.a()];
+        let mut places = [Cells::default(); MOST_PARAMETERS];
+        for (place, argument) in places.iter_mut().zip(&program.chains[number]) {
+            *place = self.argument(*argument)?;
         }
-        self.bound[callee.first..callee.first + places.len()].copy_from_slice(&places);
+        let count = callee.parameters;
+        self.bound[callee.first..callee.first + count].copy_from_slice(&places[..count]);
         self.statement(callee.body, inverse)
     }
 
     fn argument(&mut self, number: usize) -> Result<Cells, Refusal> {
-        let node = self.image.node(number);
+        let node = self.node(number);
         if node.kind == VARIABLE {
             return Ok(self.bound[node.a()]);
         }
@@ -173,19 +181,17 @@ impl<'a, 't> Machine<'a, 't> {
     }
 
     fn block(&mut self, number: usize, node: &Node, inverse: bool) -> Result<(), Refusal> {
-        let names = node.a()..node.a() + node.b();
-        let mut statements = self.image.chain(node.c());
-        if inverse {
-            statements.reverse();
-        }
-        for statement in statements {
-            self.statement(statement, inverse)?;
+        let program = self.program;
+        let statements = &program.chains[number];
+        for k in 0..statements.len() {
+            let turn = if inverse { statements.len() - 1 - k } else { k };
+            self.statement(statements[turn], inverse)?;
         }
         let (mut public_left, mut secret_left) = (false, false);
-        for variable in names {
+        for variable in node.a()..node.a() + node.b() {
             let Cells { first, length } = self.bound[variable];
             let left = self.cells[first..first + length].iter().any(|c| *c != 0);
-            let secret = self.image.variable(variable).is_secret();
+            let secret = program.variables[variable].is_secret();
             public_left |= left && !secret;
             secret_left |= left && secret;
         }
@@ -198,7 +204,7 @@ impl<'a, 't> Machine<'a, 't> {
 
     /// The cell of a scalar or element; an element's index is worked out and tested.
     fn locate(&mut self, number: usize) -> Result<usize, Refusal> {
-        let node = self.image.node(number);
+        let node = self.node(number);
         let Cells { first, length } = self.bound[node.a()];
         if node.kind == VARIABLE {
             return Ok(first);
@@ -211,9 +217,9 @@ impl<'a, 't> Machine<'a, 't> {
     }
 
     fn evaluate(&mut self, number: usize) -> Result<u64, Refusal> {
-        let node = self.image.node(number);
+        let node = self.node(number);
         match node.kind {
-            NUMBER => Ok(self.image.constant(node.a())),
+            NUMBER => Ok(self.program.constants[node.a()]),
             VARIABLE | ELEMENT | UNSAFE => self.read(number, node.a()),
             SIZE => Ok(self.bound[node.a()].length as u64),
             BINARY => {
@@ -226,9 +232,9 @@ impl<'a, 't> Machine<'a, 't> {
     }
 
     fn read(&mut self, number: usize, variable: usize) -> Result<u64, Refusal> {
-        let v = self.image.variable(variable);
+        let v = &self.program.variables[variable];
         if v.is_constant() {
-            return Ok(self.image.constant(v.extra));
+            return Ok(self.program.constants[v.extra]);
         }
         let cell = self.locate(number)?;
         self.touch(cell);

@@ -153,11 +153,12 @@ impl Image<'_> {
 
     pub fn node(&self, number: usize) -> Node {
         let at = self.nodes_at + NODE_LENGTH * number;
+        let record = &self.bytes[at..at + NODE_LENGTH];
         Node {
-            kind: self.bytes[at],
-            operator: self.bytes[at + 1],
-            fields: [2, 4, 6, 8].map(|offset| word(self.bytes, at + offset)),
-            next: word(self.bytes, at + 10),
+            kind: record[0],
+            operator: record[1],
+            fields: [word(record, 2), word(record, 4), word(record, 6), word(record, 8)],
+            next: word(record, 10),
         }
     }
 
@@ -168,18 +169,18 @@ impl Image<'_> {
         u64::from_le_bytes(value)
     }
 
-    pub fn is_parameter(&self, variable: usize) -> bool {
-        (0..self.procedures).any(|p| self.procedure(p).has_parameter(variable))
+    /// For each variable whether it is a parameter; the procedures' ranges are known to lie below V.
+    pub fn parameters(&self) -> Vec<bool> {
+        let mut flags = vec![false; self.variables];
+        for p in (0..self.procedures).map(|p| self.procedure(p)) {
+            flags[p.first..p.first + p.parameters].fill(true);
+        }
+        flags
     }
 
     /// The nodes chained by next from a first one, which may be missing.
-    pub fn chain(&self, first: usize) -> Vec<usize> {
-        let mut members = Vec::new();
-        let mut number = first;
-        while number != MISSING {
-            members.push(number);
-            number = self.node(number).next;
-        }
-        members
+    pub fn chain(&self, first: usize) -> impl Iterator<Item = usize> + '_ {
+        let present = |number: usize| (number != MISSING).then_some(number);
+        std::iter::successors(present(first), move |number| present(self.node(*number).next))
     }
 }

@@ -86,8 +86,8 @@ impl Walk<'_> {
         self.expression(value, Role::Value)?;
         let into_public = self.is_secret(value) && !self.is_secret(target);
         refuse_if(into_public, 10, number)?;
-        let mut read = self.variables(value);
-        read.extend(self.index_variables(target));
+        let mut read = self.variables(&[value]);
+        self.add_index_variables(target, &mut read);
         refuse_if(read.contains(&self.root(target)), 11, number)
     }
 
@@ -108,13 +108,13 @@ impl Walk<'_> {
         }
         let public_target = targets.iter().any(|t| !self.is_secret(*t));
         refuse_if(self.is_secret(condition) && public_target, 10, number)?;
-        self.swap_rules(number, targets, self.variables(condition))
+        self.swap_rules(number, targets, self.variables(&[condition]))
     }
 
     /// 11 and 12 of both swaps; `read` holds the condition's variables.
     fn swap_rules(&self, number: usize, targets: [usize; 2], mut read: Vec<usize>) -> Result<(), Refusal> {
         for target in targets {
-            read.extend(self.index_variables(target));
+            self.add_index_variables(target, &mut read);
         }
         let roots = targets.map(|t| self.root(t));
         refuse_if(share_any(&roots, &read), 11, number)?;
@@ -128,9 +128,8 @@ impl Walk<'_> {
         self.statement(node.b())?;
         self.statement(node.c())?;
         refuse_if(self.is_secret(condition), 10, number)?;
-        let mut changed = self.changed(node.b());
-        changed.extend(self.changed(node.c()));
-        refuse_if(share_any(&self.variables(condition), &changed), 11, number)
+        let clash = self.any_changes(&[node.b(), node.c()], &self.variables(&[condition]));
+        refuse_if(clash, 11, number)
     }
 
     fn for_loop(&mut self, number: usize, node: &Node) -> Result<(), Refusal> {
@@ -146,8 +145,7 @@ impl Walk<'_> {
         self.in_scope[counter] = false;
         let secret_bound = bounds.iter().any(|b| self.is_secret(*b));
         refuse_if(secret_bound, 10, number)?;
-        let changed = self.changed(body);
-        let clash = bounds.iter().any(|b| share_any(&self.variables(*b), &changed));
+        let clash = self.any_changes(&[body], &self.variables(&bounds));
         refuse_if(clash, 11, number)
     }
 
@@ -171,7 +169,7 @@ impl Walk<'_> {
     }
 
     fn call(&mut self, number: usize, node: &Node) -> Result<(), Refusal> {
-        let arguments = self.image.chain(node.b());
+        let arguments: Vec<usize> = self.image.chain(node.b()).collect();
         for argument in &arguments {
             self.expression(*argument, Role::Argument)?;
         }
@@ -182,7 +180,11 @@ impl Walk<'_> {
     fn arguments_clash(&self, arguments: &[usize]) -> bool {
         let roots: Vec<usize> = arguments.iter().map(|l| self.root(*l)).collect();
         let one_root = (0..roots.len()).any(|i| roots[i + 1..].contains(&roots[i]));
-        one_root || arguments.iter().any(|l| share_any(&self.index_variables(*l), &roots))
+        let mut read = Vec::new();
+        for argument in arguments {
+            self.add_index_variables(*argument, &mut read);
+        }
+        one_root || share_any(&read, &roots)
     }
 
     fn call_fits(&self, callee: usize, arguments: &[usize]) -> bool {
@@ -259,53 +261,60 @@ impl Walk<'_> {
         self.image.node(lvalue).a()
     }
 
-    /// All that an expression names, except under size.
-    fn variables(&self, expression: usize) -> Vec<usize> {
+    /// Adds all that an expression names, except under size.
+    fn add_variables(&self, expression: usize, found: &mut Vec<usize>) {
         let node = self.image.node(expression);
         match node.kind {
-            VARIABLE => vec![node.a()],
+            VARIABLE => found.push(node.a()),
             ELEMENT | UNSAFE => {
-                let mut found = self.variables(node.b());
+                self.add_variables(node.b(), found);
                 found.push(node.a());
-                found
             }
             BINARY => {
-                let mut found = self.variables(node.a());
-                found.extend(self.variables(node.b()));
-                found
+                self.add_variables(node.a(), found);
+                self.add_variables(node.b(), found);
             }
-            NOT => self.variables(node.a()),
-            _ => Vec::new(),
+            NOT => self.add_variables(node.a(), found),
+            _ => {}
         }
     }
 
-    fn index_variables(&self, lvalue: usize) -> Vec<usize> {
+    fn variables(&self, expressions: &[usize]) -> Vec<usize> {
+        let mut found = Vec::new();
+        for expression in expressions {
+            self.add_variables(*expression, &mut found);
+        }
+        found
+    }
+
+    fn add_index_variables(&self, lvalue: usize, found: &mut Vec<usize>) {
         let node = self.image.node(lvalue);
-        if node.kind == VARIABLE {
-            Vec::new()
-        } else {
-            self.variables(node.b())
+        if node.kind != VARIABLE {
+            self.add_variables(node.b(), found);
         }
     }
 
-    /// The roots of all targets and arguments in a statement.
-    fn changed(&self, statement: usize) -> Vec<usize> {
+    /// Whether a statement changes one of these: the roots of all targets and arguments in it.
+    fn changes(&self, statement: usize, names: &[bool]) -> bool {
         let node = self.image.node(statement);
+        let has_root = |lvalue: usize| names[self.root(lvalue)];
         match node.kind {
-            UPDATE => vec![self.root(node.a())],
-            SWAP => vec![self.root(node.a()), self.root(node.b())],
-            SWAP_IF => vec![self.root(node.b()), self.root(node.c())],
-            IF => [self.changed(node.b()), self.changed(node.c())].concat(),
-            FOR => self.changed(node.d()),
-            CALL | UNCALL => {
-                let arguments = self.image.chain(node.b());
-                arguments.iter().map(|l| self.root(*l)).collect()
-            }
-            BLOCK => {
-                let statements = self.image.chain(node.c());
-                statements.iter().flat_map(|s| self.changed(*s)).collect()
-            }
-            _ => Vec::new(),
+            UPDATE => has_root(node.a()),
+            SWAP => has_root(node.a()) || has_root(node.b()),
+            SWAP_IF => has_root(node.b()) || has_root(node.c()),
+            IF => self.changes(node.b(), names) || self.changes(node.c(), names),
+            FOR => self.changes(node.d(), names),
+            CALL | UNCALL => self.image.chain(node.b()).any(has_root),
+            BLOCK => self.image.chain(node.c()).any(|s| self.changes(s, names)),
+            _ => false,
         }
+    }
+
+    fn any_changes(&self, statements: &[usize], names: &[usize]) -> bool {
+        let mut among = vec![false; self.image.variables];
+        for name in names {
+            among[*name] = true;
+        }
+        statements.iter().any(|s| self.changes(*s, &among))
     }
 }

@@ -1,6 +1,7 @@
 //! FIPS 197: AES-128. The state is 16 bytes, column after column.
 
 use super::{bytes, cells};
+use std::sync::OnceLock;
 
 const ROUNDS: usize = 10;
 const KEY_WORDS: usize = 4;
@@ -35,11 +36,15 @@ fn reciprocal(byte: u8) -> u8 {
 }
 
 /// FIPS 197, 5.1.1: the inverse, then the affine map.
-fn substitution() -> [u8; 256] {
-    std::array::from_fn(|byte| {
-        let b = reciprocal(byte as u8);
-        b ^ b.rotate_left(1) ^ b.rotate_left(2) ^ b.rotate_left(3) ^ b.rotate_left(4) ^ AFFINE
-    })
+fn substituted(byte: u8) -> u8 {
+    let b = reciprocal(byte);
+    b ^ b.rotate_left(1) ^ b.rotate_left(2) ^ b.rotate_left(3) ^ b.rotate_left(4) ^ AFFINE
+}
+
+/// The S-box, worked out once.
+fn substitution() -> &'static [u8; 256] {
+    static SBOX: OnceLock<[u8; 256]> = OnceLock::new();
+    SBOX.get_or_init(|| std::array::from_fn(|byte| substituted(byte as u8)))
 }
 
 fn undone(substitution: &[u8; 256]) -> [u8; 256] {
@@ -53,7 +58,7 @@ fn undone(substitution: &[u8; 256]) -> [u8; 256] {
 /// What the Hermes program takes: the S-box, its inverse, and the products with 03, 0e, 0b, 0d and 09.
 pub fn tables() -> Vec<Vec<u64>> {
     let sbox = substitution();
-    let mut tables = vec![cells(&sbox), cells(&undone(&sbox))];
+    let mut tables = vec![cells(sbox), cells(&undone(sbox))];
     for factor in [0x03, 0x0E, 0x0B, 0x0D, 0x09] {
         tables.push((0..=255).map(|byte| u64::from(product(byte, factor))).collect());
     }
@@ -106,10 +111,10 @@ fn mixed(state: State, factors: [u8; 4]) -> State {
 
 pub fn seal(key: &[u64], text: &[u64]) -> Vec<u64> {
     let sbox = substitution();
-    let words = schedule(bytes(key), &sbox);
+    let words = schedule(bytes(key), sbox);
     let mut state = with_round_key(bytes(text), &words, 0);
     for round in 1..=ROUNDS {
-        state = shifted(state.map(|byte| looked_up(&sbox, byte)));
+        state = shifted(state.map(|byte| looked_up(sbox, byte)));
         if round != ROUNDS {
             state = mixed(state, [2, 3, 1, 1]);
         }
@@ -120,8 +125,8 @@ pub fn seal(key: &[u64], text: &[u64]) -> Vec<u64> {
 
 pub fn open(key: &[u64], sealed: &[u64]) -> Vec<u64> {
     let sbox = substitution();
-    let inverse = undone(&sbox);
-    let words = schedule(bytes(key), &sbox);
+    let inverse = undone(sbox);
+    let words = schedule(bytes(key), sbox);
     let mut state = with_round_key(bytes(sealed), &words, ROUNDS);
     for round in (0..ROUNDS).rev() {
         state = shifted_back(state).map(|byte| looked_up(&inverse, byte));
