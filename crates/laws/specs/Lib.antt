@@ -1,5 +1,6 @@
 pub mod Assemble
 pub mod Turns
+pub mod Opened
 pub mod Verdicts
 pub mod Records
 pub mod Cells
@@ -29,3 +30,5 @@ pub mod EntriesReadings
 pub mod Entries
 pub mod Unique
 pub mod CorollariesSecret
+pub mod Corollaries
+pub mod Tea
