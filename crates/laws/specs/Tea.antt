@@ -172,22 +172,10 @@ tea-reversible d works budget room works′ budget′ room′ store e w b =
 
 -- ---- it finishes, whatever key and text are
 
-abbrev pub zeroStore : List ℕ
-zeroStore = 0 ∷ 0 ∷ 0 ∷ 0 ∷ 0 ∷ 0 ∷ []
-
 abbrev pub Finished : Outcome → Type 0
 Finished o = (o .number ≡ 0) × (o .steps ≡ 166)
 
--- The published vector, run: key and text all 0 give 41EA3A0A 94BAA940.
-pub tea-published : teaRun forward 8192 166 0 zeroStore .store ≡ 0 ∷ 0 ∷ 0 ∷ 0 ∷ 1105869322 ∷ 2495260992 ∷ []
-unfolding definitions tea
-tea-published = refl
-
-pub tea-published-finishes : Finished (teaRun forward 8192 166 0 zeroStore)
-unfolding definitions tea
-tea-published-finishes = (refl, refl)
-
--- The run computes with key and text unknown, too. No 27: the last two swaps bring back to v0 and v1 the zeros that the first two put into the text.
+-- The run computes with key and text unknown. No 27: the last two swaps bring back to v0 and v1 the zeros that the first two put into the text.
 abbrev executed : Direction → ℕ → ℕ → List ℕ → Outcome
 executed d works room store = outcomeOf (teaOn d works 166 room store) (execution (headerOf tea) (partsOf tea) (teaOn d works 166 room store))
 
@@ -215,39 +203,44 @@ three-locals : roomBefore (headerOf tea) (partsOf tea) (headerOf tea .variables)
 unfolding definitions tea
 three-locals = refl
 
-let-in : (d : Direction) (works budget room : ℕ) (store : List ℕ) → KeyAndText store → 8192 ≤ works → Entered (teaOn d works budget room store)
-let-in d works budget room store k w =
-    record { checked = number-accepted; works = w; store = fits store k; room = rw (k .six, three-locals) (lit≤ tt) }
-
-tea-runs : (d : Direction) (works room : ℕ) (store : List ℕ) → KeyAndText store → 8192 ≤ works → Finished (teaRun d works 166 room store)
-tea-runs d works room store k w =
-    let g = teaOn d works 166 room store in
-    rw (run-entered g (entry-accepted g (let-in d works 166 room store k w))) (executed-finishes d works room store (k .six))
+run-executed : (d : Direction) (works room : ℕ) (store : List ℕ) → KeyAndText store → 8192 ≤ works → teaRun d works 166 room store ≡ executed d works room store
+run-executed d works room store k w = run-entered (teaOn d works 166 room store) (entry-accepted (teaOn d works 166 room store)
+    (record { checked = number-accepted; works = w; store = fits store k; room = rw (k .six, three-locals) (lit≤ tt) }))
 
 -- So with every budget that holds its 166 steps.
 pub tea-finishes : (d : Direction) (works budget room : ℕ) (store : List ℕ) → KeyAndText store → 8192 ≤ works → 166 ≤ budget → Finished (teaRun d works budget room store)
 tea-finishes d works budget room store k w b =
-    let f = tea-runs d works room store k w in
+    let f : Finished (teaRun d works 166 room store) = rw (run-executed d works room store k w) (executed-finishes d works room store (k .six)) in
     let r = enough (teaOn d works 166 room store) (teaOn d works budget room store) (f .0) refl refl refl refl w (omega arith) in
     (r .0, r .1 ∙ f .1)
 
 -- ---- both together
 
+abbrev pub zeroStore : List ℕ
+zeroStore = 0 ∷ 0 ∷ 0 ∷ 0 ∷ 0 ∷ 0 ∷ []
+
+zero-words : KeyAndText zeroStore
+zero-words = record { six = refl; word = λ i l. rw (getD-replicate {A = ℕ} 6 i 0 0 l) (pow-pos 32) }
+
+-- The published vector: key and text all 0 give 41EA3A0A 94BAA940.
+pub tea-published : teaRun forward 8192 166 0 zeroStore .store ≡ 0 ∷ 0 ∷ 0 ∷ 0 ∷ 1105869322 ∷ 2495260992 ∷ []
+tea-published = ap (λ o. o .store) (run-executed forward 8192 0 zeroStore zero-words (lit≤ tt)) ∙ computed
+  where
+    computed : executed forward 8192 0 zeroStore .store ≡ 0 ∷ 0 ∷ 0 ∷ 0 ∷ 1105869322 ∷ 2495260992 ∷ []
+    computed = unfold definitions tea in refl
+
 never-27 : (n : ℕ) → n ≡ 0 → n ≡ 27 → ⊥
 never-27 n e f = omega arith
 
--- For every key and text the run is 166 steps that leave the trace of the zero key and text.
+-- For every key and text the run takes 166 steps and leaves the trace of the published one.
 pub tea-tells-nothing : (d : Direction) (works budget room : ℕ) (store : List ℕ) → KeyAndText store → 8192 ≤ works → 166 ≤ budget
     → (teaRun d works budget room store .number ≡ 0) × (teaRun d works budget room store .steps ≡ 166) × (teaRun d works budget room store .events ≡ teaRun d works budget room zeroStore .events)
 tea-tells-nothing d works budget room store k w b =
     let f = tea-finishes d works budget room store k w b in
     let z = tea-finishes d works budget room zeroStore zero-words w b in
     (f .0, f .1, tea-secret d works budget room store zeroStore k zero-words .0 (never-27 _ (f .0)) (never-27 _ (z .0)) .events)
-  where
-    zero-words : KeyAndText zeroStore
-    zero-words = record { six = refl; word = λ i l. rw (getD-replicate {A = ℕ} 6 i 0 0 l) (pow-pos 32) }
 
--- Every text, sealed with a key, is opened by it, word for word; so is every sealed text sealed again.
+-- Every text sealed with a key is opened by it, word for word; and what is opened first can be sealed again.
 pub tea-opens : (d : Direction) (works budget room : ℕ) (store : List ℕ) → KeyAndText store → 8192 ≤ works → 166 ≤ budget
     → teaRun (opposite d) works budget room (teaRun d works budget room store .store) .store ≡ store
 tea-opens d works budget room store k w b =
