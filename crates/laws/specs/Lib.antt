@@ -1,6 +1,4 @@
-pub mod Assemble
 pub mod Turns
-pub mod Opened
 pub mod Verdicts
 pub mod Records
 pub mod Cells

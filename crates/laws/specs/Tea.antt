@@ -13,8 +13,8 @@ use Rattle.rules.specs.Image.{missing, headerOf, partsOf}
 use Rattle.rules.specs.Form.{Verdict, accepted}
 use Rattle.rules.specs.Check.{verdict, withoutUnsafe}
 use Rattle.rules.specs.Run.{Given, Outcome, roomBefore, sizes, secrecies, execution, outcomeOf, run}
-use Rattle.laws.specs.Opened.{definitions}
-use Rattle.laws.specs.Assemble.{bytes, words, joined, procedure, variableRecord, node, plain, constants, assembled}
+use Rattle.rules.proofs.Opened.{definitions}
+use Rattle.rules.proofs.Assemble.{bytes, words, joined, procedure, variableRecord, node, plain, constants, assembled}
 use Rattle.laws.specs.Growth.{Begins}
 use Rattle.laws.specs.Entry.{StoreFits, store-accepted, WellFormed, Entered, entry-accepted, run-entered}
 use Rattle.laws.specs.Reversible.{reversible}

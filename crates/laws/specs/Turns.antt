@@ -11,7 +11,7 @@ use Rattle.rules.specs.Walk.{every, share, repeats, same, secret, passesArray, 
 use Rattle.rules.specs.Check.{formRefusal, verdictFor, slow, verdict}
 use Rattle.rules.specs.Machine.{noted, holding, after, andThen, inside, load, divided, eval, address, lent, arguments, stepFrom, step, onFound, reading, next, both, inOrder, choose, change, exchange, put, leftFirst, turnsOf, counted, zeros, cleared, blockEnd, firstBound, exec}
 use Rattle.rules.specs.Run.{Given, Outcome, roomOf, roomBefore, home, storeSlots, envOf, callsBelow, lengthsFit, sum, perCell, workRefusal, lengthsRefusal, cellRefusal, roomRefusal, storeRefusal, entryRefusal, execution, outcomeOf, refusedRun, run}
-use Rattle.laws.specs.Assemble.{bytes, word, words, joined, procedure, variableRecord, node, plain, constants, assembled}
+use Rattle.rules.proofs.Assemble.{bytes, word, words, joined, procedure, variableRecord, node, plain, constants, assembled}
 
 -- ---- the programs; each is one procedure whose body is node 0
 

@@ -1,0 +1,3 @@
+pub mod Assemble
+pub mod Opened
+mod Traps
