@@ -1,25 +1,21 @@
--- What the two demands come to for one who seals and opens: a seal opens again word for word, and neither its length in steps, its trace nor a refusal tells the key.
--- Each is read off from `reversible` or `secret`.
+-- What demand 2 says of sealing and opening: what a run has sealed, its inverse opens, word for word; and the other way round.
+-- Each is read off `reversible`; what demand 3 says of two keys stands in CorollariesSecret.
 use Prim.Native.Nat.{ℕ, _-_, _≤_}
 use mathlib.Core.List.{List}
-use mathlib.Core.Path.{_≡_, refl, sym, _∙_, ap₂}
+use mathlib.Core.Path.{_≡_, refl, sym, _∙_}
 use mathlib.Core.Bool.{Bool, true, false, cond}
 use native.Mathlib.Omega.{arith}
-use lib.Dec.{T, eqb}
+use lib.Dec.{eqb}
 use Rattle.rules.specs.Words.{Direction, forward, inverse, opposite}
 use Rattle.rules.specs.Image.{headerOf, partsOf}
-use Rattle.rules.specs.Check.{verdict, withoutUnsafe}
 use Rattle.rules.specs.Machine.{Out, done, stop}
-use Rattle.rules.specs.Run.{Given, Outcome, entryRefusal, execution, outcomeOf, refusedRun, run, fitted, traceAfter}
-use Rattle.laws.specs.Entry.{WellFormed, entry-read, run-accepted}
+use Rattle.rules.specs.Run.{Given, Outcome, entryRefusal, execution, outcomeOf, refusedRun, run}
+use Rattle.laws.specs.Entry.{entry-read, run-accepted}
 use Rattle.laws.specs.Reversible.{reversible}
-use Rattle.laws.specs.Secret.{EqualButStore, AgreePublic, Alike, secret}
 
 -- What g is given, but for direction and store.
 abbrev pub lending : Given → Direction → List ℕ → Given
 lending g d store = record { image = g .image; direction = d; lengths = g .lengths; store = store; works = g .works; budget = g .budget; room = g .room }
-
--- ---- opening what was sealed
 
 pub steps-within : (g : Given) → run g .steps ≤ g .budget
 unfolding run
@@ -65,35 +61,3 @@ enough g h e image lengths direction store works budget =
     let b = there-and-back g e in
     let r = reversible back h (b .0) image lengths (direction ∙ sym (opposite-twice (g .direction))) (store ∙ sym (b .2)) works (rw (b .1) budget) in
     (r .0, r .1 ∙ b .1, r .2)
-
--- ---- what a run tells of its key
-
--- Two runs of an accepted program without unsafe look-ups that differ in their secret cells only; neither left a secret local behind (27).
-pub record TwoKeys (g h : Given) : Type 0 where
-  pub given : EqualButStore g h
-  pub checked : verdict (g .image) .number ≡ 0
-  pub safe : T (withoutUnsafe (g .image))
-  pub formed : WellFormed g
-  pub formedToo : WellFormed h
-  pub agree : AgreePublic g h
-  pub cleared : run g .number ≡ 27 → ⊥
-  pub clearedToo : run h .number ≡ 27 → ⊥
-
-pub keys-alike : (g h : Given) → TwoKeys g h → Alike g (run g) (run h)
-keys-alike g h t = secret g h (t .given) (t .checked) (t .safe) (t .formed) (t .formedToo) (t .agree) .0 (t .cleared) (t .clearedToo)
-
--- They take as many steps, and their traces are the same, entry for entry.
-pub same-steps : (g h : Given) → TwoKeys g h → run g .steps ≡ run h .steps
-same-steps g h t = keys-alike g h t .steps
-
-pub same-trace : (g h : Given) → TwoKeys g h → run g .events ≡ run h .events
-same-trace g h t = keys-alike g h t .events
-
--- So is what the trace slice holds afterwards.
-pub same-slice : (g h : Given) → TwoKeys g h → traceAfter g ≡ traceAfter h
-unfolding traceAfter
-same-slice g h t = ap₂ fitted (t .given .room) (keys-alike g h t .events)
-
--- A refusal has the same number and place for every key.
-pub same-refusal : (g h : Given) → TwoKeys g h → (run g .number ≡ run h .number) × (run g .place ≡ run h .place)
-same-refusal g h t = (keys-alike g h t .number, keys-alike g h t .place)

@@ -21,7 +21,7 @@ use Rattle.laws.specs.Reversible.{reversible}
 use Rattle.laws.specs.Secret.{EqualButStore, SamePublic, Alike, secret}
 use Rattle.laws.specs.Corollaries.{enough}
 
--- ---- the image, byte for byte that of tests/src/ciphers/programs/tea.rs
+-- ---- the image: its 866 bytes are those of samples/tea.image
 
 -- { secret u32 v0, v1;
 --   v0 <-> text[0]; v1 <-> text[1];

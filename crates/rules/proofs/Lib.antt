@@ -1,3 +1,4 @@
 pub mod Assemble
 pub mod Opened
+pub mod Programs
 mod Traps

@@ -1,71 +1,16 @@
 -- Document 01's traps and impostors, each pinned by one equation that the definitions compute: a definition that falls for one is refused here.
--- The programs are small: node 0 is the body of the last procedure, numbers stand for nodes, variables and constants as in "The image".
+-- How the small programs are written down is said in Programs.
 use Prim.Native.Nat.{ℕ, zero, suc, _+_, _-_, _*_, _/_, _%_, _^_}
 use mathlib.Core.List.{List, [], _∷_, _++_}
 use mathlib.Core.Path.{_≡_, refl}
-use lib.ListN.{length}
 use Rattle.rules.specs.Words.{Direction, forward, inverse}
 use Rattle.rules.specs.Image.{missing}
 use Rattle.rules.specs.Form.{Verdict, refused, accepted}
 use Rattle.rules.specs.Check.{verdict}
 use Rattle.rules.specs.Run.{Given, Outcome, run, workAfter}
-use Rattle.rules.proofs.Assemble.{bytes, words, joined, procedure, variableRecord, node, plain, constants, assembled}
+use Rattle.rules.proofs.Assemble.{procedure, node, plain}
 use Rattle.rules.proofs.Opened.{definitions}
-
--- ---- writing a program down
-
-abbrev public : ℕ
-public = 0
-
-abbrev hidden : ℕ
-hidden = 1
-
-abbrev scalar : ℕ → List ℕ
-scalar secrecy = variableRecord 0 secrecy 64 0
-
-abbrev array : ℕ → List ℕ
-array secrecy = variableRecord 1 secrecy 64 0
-
-abbrev constant : ℕ → List ℕ
-constant k = variableRecord 2 0 64 k
-
-abbrev counter : List ℕ
-counter = variableRecord 3 0 64 0
-
--- expressions and L-values: number k, variable x, element of x at e, a binary operator
-abbrev num : ℕ → List ℕ
-num k = plain 20 k 0 0 0
-
-abbrev var : ℕ → List ℕ
-var x = plain 21 x 0 0 0
-
-abbrev element : ℕ → ℕ → List ℕ
-element x e = plain 22 x e 0 0
-
-abbrev binary : ℕ → ℕ → ℕ → List ℕ
-binary operator a b = node 25 operator a b 0 0 missing
-
--- statements: the last field of an update and of a block is next
-abbrev empty : List ℕ
-empty = plain 1 0 0 0 0
-
-abbrev increase : ℕ → ℕ → ℕ → List ℕ
-increase target value next = node 2 1 target value 0 0 next
-
-abbrev toggle : ℕ → ℕ → ℕ → List ℕ
-toggle target value next = node 2 3 target value 0 0 next
-
-abbrev block : ℕ → ℕ → ℕ → ℕ → List ℕ
-block first count statement next = node 9 0 first count statement 0 next
-
--- One procedure whose first so many variables are parameters.
-unfoldable pub program : ℕ → List (List ℕ) → List (List ℕ) → List ℕ → List ℕ
-unfolding bytes words joined constants assembled
-program parameters variables nodes numbers = assembled (procedure 0 (length variables) parameters 0 ∷ []) variables nodes numbers
-
-unfoldable pub two : List (List ℕ) → List (List ℕ) → List (List ℕ) → List ℕ → List ℕ
-unfolding bytes words joined constants assembled
-two procedures variables nodes numbers = assembled procedures variables nodes numbers
+use Rattle.rules.proofs.Programs.{public, hidden, scalar, array, constant, counter, num, var, element, binary, empty, increase, toggle, block, program, programs}
 
 -- ---- the checker: two impostors
 
@@ -155,8 +100,8 @@ unfolding definitions program
 changed-in-body = refl
 
 -- p(x, x), where p(u64, u64) is an empty body
-one-root-twice : verdict (two (procedure 0 2 2 0 ∷ procedure 2 1 1 1 ∷ []) (scalar public ∷ scalar public ∷ scalar public ∷ []) (empty ∷ plain 7 0 2 0 0 ∷ node 21 0 2 0 0 0 3 ∷ var 2 ∷ []) []) ≡ refused 11 1
-unfolding definitions two
+one-root-twice : verdict (programs (procedure 0 2 2 0 ∷ procedure 2 1 1 1 ∷ []) (scalar public ∷ scalar public ∷ scalar public ∷ []) (empty ∷ plain 7 0 2 0 0 ∷ node 21 0 2 0 0 0 3 ∷ var 2 ∷ []) []) ≡ refused 11 1
+unfolding definitions programs
 one-root-twice = refl
 
 -- ---- the runner
