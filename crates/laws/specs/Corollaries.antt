@@ -1,6 +1,6 @@
 -- What demand 2 says of sealing and opening: what a run has sealed, its inverse opens, word for word; and the other way round.
 -- Each is read off `reversible`; what demand 3 says of two keys stands in CorollariesSecret.
-use Prim.Native.Nat.{ℕ, _-_, _≤_}
+use Prim.Native.Nat.{ℕ, _≤_}
 use mathlib.Core.List.{List}
 use mathlib.Core.Path.{_≡_, refl, sym, _∙_}
 use mathlib.Core.Bool.{Bool, true, false, cond}
@@ -9,7 +9,7 @@ use lib.Dec.{eqb}
 use Rattle.rules.specs.Words.{Direction, forward, inverse, opposite}
 use Rattle.rules.specs.Image.{headerOf, partsOf}
 use Rattle.rules.specs.Machine.{Out, done, stop}
-use Rattle.rules.specs.Run.{Given, Outcome, entryRefusal, execution, outcomeOf, refusedRun, run}
+use Rattle.rules.specs.Run.{Given, entryRefusal, execution, outcomeOf, refusedRun, run}
 use Rattle.laws.specs.Entry.{entry-read, run-accepted}
 use Rattle.laws.specs.Reversible.{reversible}
 

@@ -120,7 +120,7 @@ grows-change f i c = record { less = omega arith; begins = (cellEvent i ∷ [], 
 
 grows-exchange : (condition i j : ℕ) → Grows (exchange condition i j)
 unfolding exchange noted holding last
-grows-exchange condition i j c = record { less = omega arith; begins = (cellEvent i ∷ cellEvent j ∷ [], refl) }
+grows-exchange condition i j c = record { less = omega arith; begins = (_, refl) }
 
 pub steps-put : (i v : ℕ) → Steps (put i v)
 unfolding put holding last
@@ -128,7 +128,7 @@ steps-put i v c = record { later = record { less = omega arith; begins = begins-
 
 pub steps-leftFirst : (n i first : ℕ) (f : Command) → Steps f → Steps (leftFirst n i first f)
 unfolding leftFirst
-steps-leftFirst n i first f F c = steps-choose (eqb (getD (c .memory) i 0) first) (stop 28 n) f (steps-stop 28 n) F c
+steps-leftFirst n i first f F c = steps-choose _ (stop 28 n) f (steps-stop 28 n) F c
 
 pub steps-turnsOf : (turns n i first second : ℕ) (f : Command) → Steps f → Steps (turnsOf turns n i first second f)
 unfolding turnsOf

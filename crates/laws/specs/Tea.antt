@@ -1,6 +1,6 @@
 -- Both demands at a real cipher: TEA of 32 rounds, over a secret key of four words and a secret text of two.
 -- What they ask is met by computation: the image is accepted, looks nothing up unsafely, has secret cells only, and finishes whatever key and text are.
-use Prim.Native.Nat.{ℕ, zero, suc, _+_, _-_, _*_, _/_, _%_, _^_, _≤_, _<_}
+use Prim.Native.Nat.{ℕ, _+_, _*_, _^_, _≤_, _<_}
 use mathlib.Core.List.{List, [], _∷_, _++_}
 use mathlib.Core.Path.{_≡_, refl, sym, _∙_, ap, subst}
 use mathlib.Core.Logic.{_⊎_}
@@ -10,15 +10,15 @@ use lib.Dec.{T, lit≤}
 use lib.Pow.{pow-pos}
 use Rattle.rules.specs.Words.{Direction, forward, inverse, opposite}
 use Rattle.rules.specs.Image.{missing, headerOf, partsOf}
-use Rattle.rules.specs.Form.{Verdict, accepted}
+use Rattle.rules.specs.Form.{accepted}
 use Rattle.rules.specs.Check.{verdict, withoutUnsafe}
 use Rattle.rules.specs.Run.{Given, Outcome, roomBefore, sizes, secrecies, execution, outcomeOf, run}
 use Rattle.rules.proofs.Opened.{definitions}
 use Rattle.rules.proofs.Assemble.{bytes, words, joined, procedure, variableRecord, node, plain, constants, assembled}
 use Rattle.laws.specs.Growth.{Begins}
-use Rattle.laws.specs.Entry.{StoreFits, store-accepted, WellFormed, Entered, entry-accepted, run-entered}
+use Rattle.laws.specs.Entry.{StoreFits, store-accepted, WellFormed, entry-accepted, run-entered}
 use Rattle.laws.specs.Reversible.{reversible}
-use Rattle.laws.specs.Secret.{EqualButStore, SamePublic, Alike, secret}
+use Rattle.laws.specs.Secret.{SamePublic, Alike, secret}
 use Rattle.laws.specs.Corollaries.{enough}
 
 -- ---- the image: its 866 bytes are those of samples/tea.image
@@ -223,11 +223,17 @@ zero-words : KeyAndText zeroStore
 zero-words = record { six = refl; word = λ i l. rw (getD-replicate {A = ℕ} 6 i 0 0 l) (pow-pos 32) }
 
 -- The published vector: key and text all 0 give 41EA3A0A 94BAA940.
-pub tea-published : teaRun forward 8192 166 0 zeroStore .store ≡ 0 ∷ 0 ∷ 0 ∷ 0 ∷ 1105869322 ∷ 2495260992 ∷ []
+abbrev pub sealedZeros : List ℕ
+sealedZeros = 0 ∷ 0 ∷ 0 ∷ 0 ∷ 1105869322 ∷ 2495260992 ∷ []
+
+pub tea-published : teaRun forward 8192 166 0 zeroStore .store ≡ sealedZeros
 tea-published = ap (λ o. o .store) (run-executed forward 8192 0 zeroStore zero-words (lit≤ tt)) ∙ computed
   where
-    computed : executed forward 8192 0 zeroStore .store ≡ 0 ∷ 0 ∷ 0 ∷ 0 ∷ 1105869322 ∷ 2495260992 ∷ []
+    computed : executed forward 8192 0 zeroStore .store ≡ sealedZeros
     computed = unfold definitions tea in refl
+
+pub tea-published-finishes : Finished (teaRun forward 8192 166 0 zeroStore)
+tea-published-finishes = tea-finishes forward 8192 166 0 zeroStore zero-words (lit≤ tt) (lit≤ tt)
 
 never-27 : (n : ℕ) → n ≡ 0 → n ≡ 27 → ⊥
 never-27 n e f = omega arith
@@ -246,3 +252,8 @@ pub tea-opens : (d : Direction) (works budget room : ℕ) (store : List ℕ) →
 tea-opens d works budget room store k w b =
     let f = tea-finishes d works budget room store k w b in
     tea-reversible d works budget room works budget room store (f .0) w (omega arith) .2
+
+-- So the published cipher text opens: not by another computation, but by demand 2.
+pub tea-published-opens : teaRun inverse 8192 166 0 sealedZeros .store ≡ zeroStore
+unfolding opposite
+tea-published-opens = subst (λ σ. teaRun inverse 8192 166 0 σ .store ≡ zeroStore) tea-published (tea-opens forward 8192 166 0 zeroStore zero-words (lit≤ tt) (lit≤ tt))

@@ -1,13 +1,13 @@
 -- Document 01's traps and impostors, each pinned by one equation that the definitions compute: a definition that falls for one is refused here.
 -- How the small programs are written down is said in Programs.
-use Prim.Native.Nat.{ℕ, zero, suc, _+_, _-_, _*_, _/_, _%_, _^_}
-use mathlib.Core.List.{List, [], _∷_, _++_}
+use Prim.Native.Nat.{ℕ, _+_}
+use mathlib.Core.List.{List, [], _∷_}
 use mathlib.Core.Path.{_≡_, refl}
 use Rattle.rules.specs.Words.{Direction, forward, inverse}
 use Rattle.rules.specs.Image.{missing}
-use Rattle.rules.specs.Form.{Verdict, refused, accepted}
+use Rattle.rules.specs.Form.{refused, accepted}
 use Rattle.rules.specs.Check.{verdict}
-use Rattle.rules.specs.Run.{Given, Outcome, run, workAfter}
+use Rattle.rules.specs.Run.{Outcome, run, workAfter}
 use Rattle.rules.proofs.Assemble.{procedure, node, plain}
 use Rattle.rules.proofs.Opened.{definitions}
 use Rattle.rules.proofs.Programs.{public, hidden, scalar, array, constant, counter, num, var, element, binary, empty, increase, toggle, block, program, programs}
