@@ -1,0 +1,10 @@
+pub mod World
+pub mod Doing
+pub mod Standing
+pub mod Ways
+pub mod Nodes
+pub mod Lists
+pub mod Loop
+pub mod Leaves
+pub mod Calls
+pub mod Promises

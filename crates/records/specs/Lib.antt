@@ -1,0 +1,7 @@
+pub mod Records
+pub mod Decode
+pub mod Truth
+pub mod Fits
+pub mod Reading
+pub mod Cases
+pub mod Understood

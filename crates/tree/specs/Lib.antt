@@ -1,0 +1,5 @@
+pub mod Parts
+pub mod Search
+pub mod Turns
+pub mod Tally
+pub mod Hand
