@@ -6,20 +6,6 @@ use native.Mathlib.Omega.{arith}
 use native.Mathlib.Nat.{add-zero, zero-add}
 use Rattle.rules.specs.Form.{search}
 
--- A turn of a search passes on, stops or ends.
-module _ (passes : ℕ → Bool) (i n : ℕ) where
-  pub search-on : i < n → passes i ≡ true → search passes i (n - i) ≡ search passes (i + 1) (n - (i + 1))
-  unfolding search
-  search-on l t = let e : n - i ≡ suc (n - (i + 1)) = omega arith in let e′ : i + 1 ≡ suc i = omega arith in rw (e, t, e′)
-
-  pub search-stop : i < n → passes i ≡ false → search passes i (n - i) ≡ i
-  unfolding search
-  search-stop l t = let e : n - i ≡ suc (n - (i + 1)) = omega arith in rw (e, t)
-
-  pub search-end : n ≤ i → search passes i (n - i) ≡ i
-  unfolding search
-  search-end l = let e : n - i ≡ 0 = omega arith in rw e
-
 pub search-to : (passes : ℕ → Bool) (i count : ℕ) → search passes i count ≤ i + count
 unfolding search
 search-to passes i zero = omega arith

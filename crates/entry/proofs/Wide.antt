@@ -14,8 +14,8 @@ use Rattle.rules.specs.Image.{Parts}
 use Rattle.rules.specs.Form.{search}
 use Rattle.rules.specs.Walk.{typeOf}
 use Rattle.rules.specs.Run.{perCell, sum}
-use Rattle.tree.specs.Search.{search-same}
-use Rattle.entry.proofs.Searches.{search-end, search-to, search-skip, search-ends}
+use Rattle.tree.specs.Search.{search-end, search-same}
+use Rattle.entry.proofs.Searches.{search-to, search-skip, search-ends}
 use Rattle.entry.proofs.Lengths.{Summed, summed-none, summed-more, summed-all}
 
 -- `1 << z` is 2^z.

@@ -16,6 +16,20 @@ tested false = inr refl
 first-or-later : (i k : ℕ) → i ≤ k → (k ≡ i) ⊎ (suc i ≤ k)
 first-or-later i k low = ⊎-elim (λ t. inl (eqb-true k i t)) (λ f. inr (omega (arith, eqb-false k i f))) (tested (eqb k i))
 
+-- A turn of a search passes on, stops or ends.
+module _ (passes : ℕ → Bool) (i n : ℕ) where
+  pub search-on : i < n → passes i ≡ true → search passes i (n - i) ≡ search passes (i + 1) (n - (i + 1))
+  unfolding search
+  search-on l t = let e : n - i ≡ suc (n - (i + 1)) = omega arith in let e′ : i + 1 ≡ suc i = omega arith in rw (e, t, e′)
+
+  pub search-stop : i < n → passes i ≡ false → search passes i (n - i) ≡ i
+  unfolding search
+  search-stop l t = let e : n - i ≡ suc (n - (i + 1)) = omega arith in rw (e, t)
+
+  pub search-end : n ≤ i → search passes i (n - i) ≡ i
+  unfolding search
+  search-end l = let e : n - i ≡ 0 = omega arith in rw e
+
 -- A search from the front: the rest of the search is the whole.
 pub record Searching (passes : ℕ → Bool) (count n : ℕ) : Type 0 where
   pub upto : n ≤ count

@@ -7,7 +7,7 @@ use borrow.Author.Tests.{le-leb, lt-leb}
 use lib.Dec.{leb}
 use Rattle.rules.specs.Image.{Procedure}
 use Rattle.rules.specs.Form as form
-use Rattle.entry.proofs.Searches.{search-on, search-stop, search-end}
+use Rattle.tree.specs.Search.{search-on, search-stop, search-end}
 use Rattle.entry.specs.Cells.{endsAt}
 use Rattle.entry.proofs.cells.owner_from.Statement.{statement}
 use Rattle.entry.proofs.cells.owner_from.Tie as tie

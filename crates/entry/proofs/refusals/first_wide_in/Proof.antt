@@ -7,7 +7,7 @@ use borrow.Author.Tests.{not-true, not-false}
 use lib.Dec.{ltb}
 use lib.ListN.{getD}
 use Rattle.rules.specs.Form as form
-use Rattle.entry.proofs.Searches.{search-on, search-stop, search-end}
+use Rattle.tree.specs.Search.{search-on, search-stop, search-end}
 use Rattle.entry.proofs.refusals.first_wide_in.Statement.{statement}
 use Rattle.entry.proofs.refusals.first_wide_in.Tie as tie
 

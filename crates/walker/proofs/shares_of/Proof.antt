@@ -1,0 +1,19 @@
+-- The record that stands there.
+use Rattle.walker.specs.Simple.{shares}
+use borrow.Author.Needs.{needs}
+use Rattle.walker.proofs.shares_of.Statement.{statement}
+use Rattle.walker.proofs.shares_of.Tie as tie
+use Rattle.walker.proofs.shares_of.Reads as reads
+use Rattle.walker.proofs.shares_of.Lts as lts
+use Rattle.records.proofs.procedure_at.Reads as procedure-at-reads
+
+-- src/lib.rt:325:5
+procedure-at-requires : tie.Need-procedure-at-requires
+procedure-at-requires c κs = search needs
+
+-- src/lib.rt:322:1
+returns : tie.Need-returns
+returns c = shares _ _ _ (c .procedure-at .ensures)
+
+pub shares-of-spec : {M : Type 1} → statement M
+shares-of-spec = tie.close (tie.spec procedure-at-requires returns)

@@ -1,0 +1,4 @@
+pub mod Judge
+pub mod Ways
+pub mod Simple
+pub mod Nested
