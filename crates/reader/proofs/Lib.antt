@@ -1,0 +1,3 @@
+pub mod Thin
+pub mod Results
+pub mod Above

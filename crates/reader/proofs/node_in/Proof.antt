@@ -1,0 +1,16 @@
+-- The part is what stands between its two offsets: the reader's equation at that part.
+use borrow.Author.Needs.{needs}
+use Rattle.reader.proofs.node_in.Statement.{statement}
+use Rattle.reader.proofs.node_in.Tie as tie
+
+between-requires : tie.Need-between-requires
+between-requires c κs = search needs
+
+record-at-requires : tie.Need-record-at-requires
+record-at-requires c κs = search needs
+
+returns : tie.Need-returns
+returns c = cc
+
+pub node-in-spec : {M : Type 1} → statement M
+node-in-spec = tie.close (tie.spec between-requires record-at-requires returns)
