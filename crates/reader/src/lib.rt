@@ -1,8 +1,11 @@
 // "one small reader keeps the image and its four offsets together": thin functions over it that read a record,
 // and plain functions above it for callers that hold nothing but an image.
 ghost use mathlib.Core.Path.{_≡_};
+ghost use mathlib.Core.Bool.{_&&_};
+ghost use lib.Dec.{leb};
 ghost use Rattle.rules.specs.Image.{part, partsOf, procedureOf, variableOf, nodeOf, constantOf};
 ghost use Rattle.records.specs.Records.{asProcedure, asVariable, asNode};
+ghost use Rattle.reader.specs.Blame.{namedBy, asBlame, blameOf};
 ghost use Rattle.reader.specs.Parts.{offsetsOf, partsBy};
 use records::Procedure;
 use records::RawNode;
@@ -135,4 +138,54 @@ pub fn node_of(image: &[u8], n: u16) -> RawNode
     ensures { λ r. ⌜ asNode r ≡ nodeOf (partsOf (now (image .entry)) .nodes) n ⌝ }
 {
     node(over(image), n)
+}
+
+// The record to look at after a refusal.
+pub enum Blamed {
+    Procedure(Procedure),
+    Variable(Variable),
+    Node(RawNode),
+    Nothing,
+}
+
+// Whether a number lies from low to high.
+fn from_to(number: u16, low: u16, high: u16) -> bool
+    ensures { λ r. ⌜ r ≡ (leb low number && leb number high) ⌝ }
+{
+    low <= number && number <= high
+}
+
+// The column "Place" of both tables, by number: a procedure (1), a variable (2), a node (3), or no record (0).
+fn named_by(number: u16) -> u8
+    ensures { λ r. ⌜ r ≡ namedBy number ⌝ }
+{
+    if number == 3 {
+        return 1;
+    }
+    if number == 4 {
+        return 2;
+    }
+    if number == 8 {
+        return 2;
+    }
+    if from_to(number, 5, 13) {
+        return 3;
+    }
+    if from_to(number, 23, 28) {
+        return 3;
+    }
+    0
+}
+
+// The record that the number and place of an answer blame: what a trainee is shown.
+pub fn blame(image: &[u8], number: u16, place: u16) -> Blamed
+    ensures { λ r. ⌜ asBlame r ≡ blameOf (now (image .entry)) number place ⌝ }
+{
+    let named = named_by(number);
+    match named {
+        1 => Blamed::Procedure(procedure_of(image, place)),
+        2 => Blamed::Variable(variable_of(image, place)),
+        3 => Blamed::Node(node_of(image, place)),
+        _ => Blamed::Nothing,
+    }
 }
