@@ -1,6 +1,5 @@
 -- One law for every plain function above the reader: `over` makes a reader of the image, which is held in a local and passed to a thin function.
 -- The walk of the MIR knows of the two only that each meets its contract; it ends in what stands at the image's own offsets.
--- In a local MIR erases the lifetime of the reader's type, so its value is shown to have the type at `erased`.
 use mathlib.Core.Path.{_≡_, refl, subst}
 use Prim.Native.Nat.{ℕ, _<_, _^_}
 use mathlib.Core.List.{List, [], _∷_}
@@ -87,7 +86,7 @@ module _ (R : Result) (Finds : List ℕ → Offsets → ℕ → R .row .Denot �
       abbrev Found : R .row .Denot → Type 0
       Found = Finds (now s) (offsetsOf (now s)) n
 
-      -- the reader's type as a local of a body has it
+      -- the reader's type as a local has it: MIR erases its lifetime
       abbrev αᵉ : NamedLft
       αᵉ = record { mir = erased; lft = κ }
 

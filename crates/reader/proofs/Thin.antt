@@ -1,7 +1,5 @@
--- One law for every thin function over a reader: the reader is taken apart, and a covered function gets the image, the offsets and a number.
--- It is a walk of the MIR by hand, once for all results: what the covered function finds is what the thin one says.
--- A reader is Copy: what it owns is had twice, one copy is kept whole for the exit, and the other goes to the covered function field by field,
--- beside the lifetime's token, which comes back.
+-- One law for every thin function over a reader, a walk of its MIR by hand: the reader is taken apart, a covered function gets the image, the offsets and a number,
+-- and what that finds is what the thin function says. A reader is Copy: one copy of what it owns goes to the covered function, and one is kept whole for the exit.
 use mathlib.Core.Path.{_≡_, refl}
 use Prim.Native.Nat.{ℕ, _<_, _^_}
 use mathlib.Core.List.{List, [], _∷_}

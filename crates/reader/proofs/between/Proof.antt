@@ -2,7 +2,6 @@
 -- and else no more than the image has: each way out is one law of take and drop.
 use Prim.Native.Nat.{ℕ, _-_}
 use mathlib.Core.Path.{_≡_, sym, ap, _∙_}
-use mathlib.Core.List.{List}
 use native.Mathlib.Omega.{arith}
 use native.Mathlib.Nat.{le-of-lt}
 use lib.ListN.{length, take, drop, length-drop, drop-of-length-le}

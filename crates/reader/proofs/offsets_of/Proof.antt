@@ -1,7 +1,6 @@
 -- Each offset is a field of the header, whose equation is the reader's.
 use mathlib.Core.Path.{ap}
 use Rattle.rules.specs.Image as rules
-use Rattle.reader.specs.declared.Offsets.{Offsets}
 use borrow.Author.Needs.{needs}
 use Rattle.reader.proofs.offsets_of.Statement.{statement}
 use Rattle.reader.proofs.offsets_of.Tie as tie
