@@ -116,7 +116,19 @@ pub fn check_cases() -> Vec<CheckCase> {
 }
 
 pub fn run_cases() -> Vec<RunCase> {
-    [turns::runs(), runs::runs(), runs_refused::runs(), tea::runs()].into_iter().flatten().collect()
+    [turns::starred(), unstarred_turns(), finished_runs(), refused_runs(), tea::runs()].into_iter().flatten().collect()
+}
+
+pub fn unstarred_turns() -> Vec<RunCase> {
+    turns::unstarred()
+}
+
+pub fn finished_runs() -> Vec<RunCase> {
+    runs::runs()
+}
+
+pub fn refused_runs() -> Vec<RunCase> {
+    runs_refused::runs()
 }
 
 /// The reference's outcome, run again with a trace slice as long as the first run asked for.
@@ -204,7 +216,7 @@ mod tests {
     #[test]
     fn starred_turns() {
         turns::checks().iter().for_each(assert_check);
-        turns::runs().iter().for_each(|case| {
+        turns::starred().iter().for_each(|case| {
             assert_run(case);
         });
     }

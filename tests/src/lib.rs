@@ -10,7 +10,7 @@ pub mod image;
 pub mod library;
 pub mod reference;
 pub mod samples;
-pub mod vectors;
+pub mod streams;
 
 use fuzz::Implementation;
 

@@ -13,11 +13,11 @@ pub fn folder() -> PathBuf {
     PathBuf::from(concat!(env!("CARGO_MANIFEST_DIR"), "/../samples"))
 }
 
-/// Writes files into the folder of samples.
-pub fn write(files: &[File]) -> std::io::Result<()> {
-    std::fs::create_dir_all(folder())?;
+/// Writes files into a folder.
+pub fn write(folder: PathBuf, files: &[File]) -> std::io::Result<()> {
+    std::fs::create_dir_all(&folder)?;
     for (name, bytes) in files {
-        std::fs::write(folder().join(name), bytes)?;
+        std::fs::write(folder.join(name), bytes)?;
     }
     Ok(())
 }
@@ -56,18 +56,16 @@ fn forgotten_lock() -> Vec<u8> {
 mod tests {
     use super::*;
     use crate::reference::check;
-    use crate::vectors;
 
     #[test]
-    fn the_folder_holds_what_the_programs_write() {
-        let mut expected = files();
-        expected.extend(vectors::files());
+    fn the_folder_holds_what_the_program_writes() {
+        let expected = files();
         for (name, bytes) in &expected {
             let found = std::fs::read(folder().join(name)).unwrap_or_default();
-            assert!(found == *bytes, "samples/{name} is not what the programs samples and vectors write");
+            assert!(found == *bytes, "samples/{name} is not what the program samples writes");
         }
         let count = std::fs::read_dir(folder()).unwrap().count();
-        assert_eq!(count, expected.len(), "samples/ holds a file that no program writes");
+        assert_eq!(count, expected.len(), "samples/ holds a file that the program does not write");
     }
 
     #[test]

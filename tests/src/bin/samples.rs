@@ -1,7 +1,7 @@
 //! Writes the images of the folder samples/ and its README.md.
 
-use bench_tests::samples::{files, write};
+use bench_tests::samples::{files, folder, write};
 
 fn main() -> std::io::Result<()> {
-    write(&files())
+    write(folder(), &files())
 }

@@ -58,10 +58,20 @@ pub fn checks() -> Vec<CheckCase> {
     ]
 }
 
-pub fn runs() -> Vec<RunCase> {
+pub fn starred() -> Vec<RunCase> {
     let mut cases = arithmetic();
     cases.extend(control());
     cases
+}
+
+pub fn unstarred() -> Vec<RunCase> {
+    let touching = || array_and_scalar(add(at(0, 0), 1));
+    vec![
+        ran("turn: a[0] of length 0", touching(), &[0, 1], &[5]).refused(24, 1),
+        ran("turn: a[0] of length 1", touching(), &[1, 1], &[4, 5]).gives(&[5, 5]),
+        ran("turn: run of depth 32", deep(32), &[1], &[6]).gives(&[7]),
+        ran("turn: run of depth 33", deep(33), &[1], &[6]).refused(6, 33),
+    ]
 }
 
 fn arithmetic() -> Vec<RunCase> {
@@ -84,7 +94,6 @@ fn control() -> Vec<RunCase> {
     let back = update(Change::Xor, var(0), 1);
     let returning = single(&[], &[Variable::Counter], for_loop(0, 0, 2, back)).bytes();
     let nothing = single(&[], &[], list(vec![])).bytes();
-    let touching = || array_and_scalar(add(at(0, 0), 1));
     vec![
         ran("turn: condition 2 swaps", conditional_swap(), &[1, 1, 1], &[7, 9, 2]).gives(&[9, 7, 2]),
         ran("turn: condition 0 does not", conditional_swap(), &[1, 1, 1], &[7, 9, 0]).gives(&[7, 9, 0]),
@@ -97,7 +106,5 @@ fn control() -> Vec<RunCase> {
         ran("turn: t += x, x = 0", uncleared_secret(), &[1], &[0]).gives(&[0]),
         ran("turn: t += x, x = 1", uncleared_secret(), &[1], &[1]).refused(27, 0),
         ran("turn: empty block", nothing, &[], &[]).steps(1),
-        ran("turn: a[0] of length 0", touching(), &[0, 1], &[5]).refused(24, 1),
-        ran("turn: a[0] of length 1", touching(), &[1, 1], &[4, 5]).gives(&[5, 5]),
     ]
 }

@@ -9,7 +9,7 @@ const DELAY: u64 = 0x2_49F0;
 const LOCK: u64 = 1;
 
 pub fn text() -> String {
-    [introduction(), sealed_and_opened(), forgotten(), refused(), images(), vectors()].concat()
+    [introduction(), sealed_and_opened(), forgotten(), refused(), images(), streams()].concat()
 }
 
 fn image(name: &str) -> Vec<u8> {
@@ -40,8 +40,7 @@ fn shown(command: &str, printed: &str) -> String {
 fn introduction() -> String {
     "# Samples
 
-Images to check and run, and the vectors that they are held to. `cargo run --release --bin samples` and `--bin vectors`, in
-the folder tests, write this folder anew; a test there compares.
+Images to check and run. `cargo run --release --bin samples`, in the folder tests, writes this folder anew; a test there compares.
 
 All commands below stand in the folder tests and answer by the Rust reference. With `--features library` behind `--release`
 they answer by the proved library, which `rt staticlib firmware` makes first, and print the same.
@@ -129,6 +128,15 @@ The others make their round keys on the way and take them back.
     text
 }
 
-fn vectors() -> String {
-    crate::vectors::described()
+fn streams() -> String {
+    "## Runs as a stream
+
+The programs crates/ciphers and crates/turns read a stream of runs (their file stdin) and print a line for each (stdout): published
+vectors of these ciphers, and the turns of document 01 that are not starred with runs that meet every answer, in both directions.
+`cargo run --release --bin streams` writes the four files anew: stores of the ciphers are worked out by plain ciphers, all else by
+the Rust reference. Numbers are little-endian. A run is seven numbers of 16 bits, which are the lengths of the image and of its name,
+the direction (1 is inverse), how many lengths, cells, work words and trace entries there are; the budget in 64 bits; the name, the
+image; lengths and cells of 64 bits each. An image length of 0 ends the stream.
+"
+    .to_string()
 }
