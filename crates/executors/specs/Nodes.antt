@@ -46,9 +46,9 @@ use Rattle.executors.specs.declared.Rest.the-variants as left
 -- The cases of statements.
 unfoldable pub IsStatement : case.Node → Type 0
 IsStatement Empty = Unit
-IsStatement (Update o l v) = Unit
+IsStatement (Update l v o) = Unit
 IsStatement (Swap l m) = Unit
-IsStatement (ConditionalSwap e l m) = Unit
+IsStatement (ConditionalSwap l m e) = Unit
 IsStatement (If e y z) = Unit
 IsStatement (For x a b c) = Unit
 IsStatement (Call p a) = Unit
@@ -68,9 +68,9 @@ noStatement = 9 ∷ 10 ∷ 11 ∷ 12 ∷ 13 ∷ 14 ∷ []
 pub not-statement : (x : case.Node) → IsStatement x → OneOf noStatement (tagOf the-type x) → ⊥
 unfolding IsStatement
 not-statement Empty i k = miss noStatement 0 tt k
-not-statement (Update o l v) i k = miss noStatement 1 tt k
+not-statement (Update l v o) i k = miss noStatement 1 tt k
 not-statement (Swap l m) i k = miss noStatement 2 tt k
-not-statement (ConditionalSwap c l m) i k = miss noStatement 3 tt k
+not-statement (ConditionalSwap l m c) i k = miss noStatement 3 tt k
 not-statement (If c y z) i k = miss noStatement 4 tt k
 not-statement (For x a b c) i k = miss noStatement 5 tt k
 not-statement (Call p a) i k = miss noStatement 6 tt k
@@ -182,9 +182,9 @@ module _ {nodes procedures variables constants : List ℕ} (w : World nodes proc
       → running w p d ρ (stmtAt w n) ≡ step n (performed w p d ρ (stmtAt w n))
   unfolding IsStatement exec performing updating exchanging exchangingIf
   steps p d ρ n Empty i m = rw m
-  steps p d ρ n (Update o l v) i m = rw m
+  steps p d ρ n (Update l v o) i m = rw m
   steps p d ρ n (Swap l k) i m = rw m
-  steps p d ρ n (ConditionalSwap e l k) i m = rw m
+  steps p d ρ n (ConditionalSwap l k e) i m = rw m
   steps p d ρ n (If e y z) i m = rw m
   steps p d ρ n (For x a b c) i m = rw m
   steps p d ρ n (Call q a) i m = rw m

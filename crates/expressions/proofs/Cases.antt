@@ -22,9 +22,9 @@ use Rattle.expressions.specs.Relations.{Readable}
 
 abbrev pub Expressed : ℕ → Decoded → Type 0
 Expressed n (Is Empty) = ⊥
-Expressed n (Is (Update o l v)) = ⊥
+Expressed n (Is (Update l v o)) = ⊥
 Expressed n (Is (Swap l m)) = ⊥
-Expressed n (Is (ConditionalSwap e l m)) = ⊥
+Expressed n (Is (ConditionalSwap l m e)) = ⊥
 Expressed n (Is (If e a b)) = ⊥
 Expressed n (Is (For x a b s)) = ⊥
 Expressed n (Is (Call p a)) = ⊥
@@ -81,9 +81,9 @@ others = 0 ∷ 1 ∷ 2 ∷ 3 ∷ 4 ∷ 5 ∷ 6 ∷ 7 ∷ 8 ∷ 14 ∷ []
 
 no-other : (n : ℕ) (x : Node) → Expressed n (Is x) → OneOf others (tagOf the-type x) → ⊥
 no-other n Empty e o = e
-no-other n (Update u l v) e o = e
+no-other n (Update l v u) e o = e
 no-other n (Swap l m) e o = e
-no-other n (ConditionalSwap v l m) e o = e
+no-other n (ConditionalSwap l m v) e o = e
 no-other n (If v a b) e o = e
 no-other n (For x a b s) e o = e
 no-other n (Call p a) e o = e

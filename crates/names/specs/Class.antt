@@ -24,9 +24,9 @@ use Rattle.records.specs.declared.Decoded.the-variants.{Is, Refused}
 
 abbrev pub statementCase : Node → Bool
 statementCase Empty = true
-statementCase (Update o l v) = true
+statementCase (Update l v o) = true
 statementCase (Swap l m) = true
-statementCase (ConditionalSwap e l m) = true
+statementCase (ConditionalSwap l m e) = true
 statementCase (If e y z) = true
 statementCase (For x a b c) = true
 statementCase (Call p a) = true
@@ -41,9 +41,9 @@ statementCase (Argument l m) = false
 
 abbrev pub expressionCase : Node → Bool
 expressionCase Empty = false
-expressionCase (Update o l v) = false
+expressionCase (Update l v o) = false
 expressionCase (Swap l m) = false
-expressionCase (ConditionalSwap e l m) = false
+expressionCase (ConditionalSwap l m e) = false
 expressionCase (If e y z) = false
 expressionCase (For x a b c) = false
 expressionCase (Call p a) = false
@@ -115,9 +115,9 @@ module _ (s : List ℕ) (n : ℕ) (r : rules.Node) where
 -- The node of an L-value that is read as a value.
 abbrev caseNode : ℕ → Node → ℕ
 caseNode n Empty = n
-caseNode n (Update o l v) = n
+caseNode n (Update l v o) = n
 caseNode n (Swap l m) = n
-caseNode n (ConditionalSwap e l m) = n
+caseNode n (ConditionalSwap l m e) = n
 caseNode n (If e y z) = n
 caseNode n (For x a b c) = n
 caseNode n (Call p a) = n
@@ -171,9 +171,9 @@ noStatement = 9 ∷ 10 ∷ 11 ∷ 12 ∷ 13 ∷ 14 ∷ []
 
 pub not-expression : (x : Node) → expressionCase x ≡ true → OneOf noExpression (tagOf the-type x) → ⊥
 not-expression Empty e k = never e
-not-expression (Update o l v) e k = never e
+not-expression (Update l v o) e k = never e
 not-expression (Swap l m) e k = never e
-not-expression (ConditionalSwap c l m) e k = never e
+not-expression (ConditionalSwap l m c) e k = never e
 not-expression (If c y z) e k = never e
 not-expression (For x a b c) e k = never e
 not-expression (Call p a) e k = never e
@@ -188,9 +188,9 @@ not-expression (Argument l m) e k = never e
 
 pub not-statement : (x : Node) → statementCase x ≡ true → OneOf noStatement (tagOf the-type x) → ⊥
 not-statement Empty e k = miss noStatement 0 tt k
-not-statement (Update o l v) e k = miss noStatement 1 tt k
+not-statement (Update l v o) e k = miss noStatement 1 tt k
 not-statement (Swap l m) e k = miss noStatement 2 tt k
-not-statement (ConditionalSwap c l m) e k = miss noStatement 3 tt k
+not-statement (ConditionalSwap l m c) e k = miss noStatement 3 tt k
 not-statement (If c y z) e k = miss noStatement 4 tt k
 not-statement (For x a b c) e k = miss noStatement 5 tt k
 not-statement (Call p a) e k = miss noStatement 6 tt k

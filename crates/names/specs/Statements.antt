@@ -41,7 +41,7 @@ module _ {class : ℕ → Bool} {nodes : List ℕ} {n : ℕ} (k : Known class no
 
 -- The targets of a statement, by its case.
 module _ {class : ℕ → Bool} {nodes : List ℕ} {h : Header} {s : Parts} {n : ℕ} (st : Standing class nodes h s n) where
-  pub update-target : {o v : ℕ} {l : LValue} → decodedAt nodes n ≡ Is (Update o l v) → Naming nodes h s l
+  pub update-target : {o v : ℕ} {l : LValue} → decodedAt nodes n ≡ Is (Update l v o) → Naming nodes h s l
   update-target {l = l} d = target-naming st {l = l} (refers st d .0)
 
   pub swap-left : {l m : LValue} → decodedAt nodes n ≡ Is (Swap l m) → Naming nodes h s l
@@ -50,10 +50,10 @@ module _ {class : ℕ → Bool} {nodes : List ℕ} {h : Header} {s : Parts} {n :
   pub swap-right : {l m : LValue} → decodedAt nodes n ≡ Is (Swap l m) → Naming nodes h s m
   swap-right {l} {m} d = target-naming st {l = m} (refers st d .1)
 
-  pub conditional-left : {e : ℕ} {l m : LValue} → decodedAt nodes n ≡ Is (ConditionalSwap e l m) → Naming nodes h s l
+  pub conditional-left : {e : ℕ} {l m : LValue} → decodedAt nodes n ≡ Is (ConditionalSwap l m e) → Naming nodes h s l
   conditional-left {e} {l} d = target-naming st {l = l} (refers st d .1 .0)
 
-  pub conditional-right : {e : ℕ} {l m : LValue} → decodedAt nodes n ≡ Is (ConditionalSwap e l m) → Naming nodes h s m
+  pub conditional-right : {e : ℕ} {l m : LValue} → decodedAt nodes n ≡ Is (ConditionalSwap l m e) → Naming nodes h s m
   conditional-right {e} {l} {m} d = target-naming st {l = m} (refers st d .1 .1)
 
 module _ {nodes : List ℕ} {h : Header} {s : Parts} {n : ℕ} (st : Standing isStatement nodes h s n) where
@@ -61,7 +61,7 @@ module _ {nodes : List ℕ} {h : Header} {s : Parts} {n : ℕ} (st : Standing is
   unfolding changed
   changed-empty d = rw (means st d)
 
-  pub changed-update : {o v : ℕ} {l : LValue} → decodedAt nodes n ≡ Is (Update o l v) → changed (readingAt h s n .asStmt) ≡ rootOf l ∷ []
+  pub changed-update : {o v : ℕ} {l : LValue} → decodedAt nodes n ≡ Is (Update l v o) → changed (readingAt h s n .asStmt) ≡ rootOf l ∷ []
   unfolding changed
   changed-update {l = l} d = rw (means st d, root-place h s l)
 
@@ -69,7 +69,7 @@ module _ {nodes : List ℕ} {h : Header} {s : Parts} {n : ℕ} (st : Standing is
   unfolding changed
   changed-swap {l} {m} d = rw (means st d, root-place h s l, root-place h s m)
 
-  pub changed-conditional : {e : ℕ} {l m : LValue} → decodedAt nodes n ≡ Is (ConditionalSwap e l m) → changed (readingAt h s n .asStmt) ≡ rootOf l ∷ rootOf m ∷ []
+  pub changed-conditional : {e : ℕ} {l m : LValue} → decodedAt nodes n ≡ Is (ConditionalSwap l m e) → changed (readingAt h s n .asStmt) ≡ rootOf l ∷ rootOf m ∷ []
   unfolding changed
   changed-conditional {e} {l} {m} d = rw (means st d, root-place h s l, root-place h s m)
 

@@ -37,9 +37,9 @@ nodeOfLValue (Unsafe n x i) = n
 -- What node n is read as, by its case.
 abbrev pub Means : Header → Parts → ℕ → Node → Type 0
 Means h s n Empty = readingAt h s n .asStmt ≡ tree.empty n
-Means h s n (Update o l v) = readingAt h s n .asStmt ≡ tree.update n (updateOf o) (placeOf h s l) (readingAt h s v .asExpr)
+Means h s n (Update l v o) = readingAt h s n .asStmt ≡ tree.update n (updateOf o) (placeOf h s l) (readingAt h s v .asExpr)
 Means h s n (Swap l m) = readingAt h s n .asStmt ≡ tree.swap n (placeOf h s l) (placeOf h s m)
-Means h s n (ConditionalSwap e l m) = readingAt h s n .asStmt ≡ tree.conditionalSwap n (readingAt h s e .asExpr) (placeOf h s l) (placeOf h s m)
+Means h s n (ConditionalSwap l m e) = readingAt h s n .asStmt ≡ tree.conditionalSwap n (readingAt h s e .asExpr) (placeOf h s l) (placeOf h s m)
 Means h s n (If e y z) = readingAt h s n .asStmt ≡ tree.branch n (readingAt h s e .asExpr) (readingAt h s y .asStmt) (readingAt h s z .asStmt)
 Means h s n (For x a b c) = readingAt h s n .asStmt ≡ tree.loop n x (readingAt h s a .asExpr) (readingAt h s b .asExpr) (readingAt h s c .asStmt)
 Means h s n (Call p a) = readingAt h s n .asStmt ≡ tree.call n forward p (readingAt h s a .asArguments)
@@ -65,9 +65,9 @@ Targeted h s n l = Child h (s .nodes) n isLValue (nodeOfLValue l) × Named h s l
 -- What the fields of node n refer to, by its case.
 abbrev pub Refers : Header → Parts → ℕ → Node → Type 0
 Refers h s n Empty = Unit {0}
-Refers h s n (Update o l v) = Targeted h s n l × Child h (s .nodes) n isExpression v
+Refers h s n (Update l v o) = Targeted h s n l × Child h (s .nodes) n isExpression v
 Refers h s n (Swap l m) = Targeted h s n l × Targeted h s n m
-Refers h s n (ConditionalSwap e l m) = Child h (s .nodes) n isExpression e × (Targeted h s n l × Targeted h s n m)
+Refers h s n (ConditionalSwap l m e) = Child h (s .nodes) n isExpression e × (Targeted h s n l × Targeted h s n m)
 Refers h s n (If e y z) = Child h (s .nodes) n isExpression e × (Child h (s .nodes) n isStatement y × Child h (s .nodes) n isStatement z)
 Refers h s n (For x a b c) =
     (x < h .variables) × (Child h (s .nodes) n isExpression a × (Child h (s .nodes) n isExpression b × Child h (s .nodes) n isStatement c))

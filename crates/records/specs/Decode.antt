@@ -37,13 +37,13 @@ expressionBy n r =
     (cond (eqb (r .kind) 26) (Is (Not (r .a))) (withTarget (lvalueBy n r) n (λ l. Is (Value l))))))
 
 abbrev pub updateBy : List ℕ → ℕ → rules.Node → Decoded
-updateBy s n r = withTarget (lvalueAt s (r .a)) n (λ l. Is (Update (r .operator) l (r .b)))
+updateBy s n r = withTarget (lvalueAt s (r .a)) n (λ l. Is (Update l (r .b) (r .operator)))
 
 abbrev pub swapBy : List ℕ → ℕ → rules.Node → Decoded
 swapBy s n r = withTarget (lvalueAt s (r .a)) n (λ l. withTarget (lvalueAt s (r .b)) n (λ m. Is (Swap l m)))
 
 abbrev pub conditionalSwapBy : List ℕ → ℕ → rules.Node → Decoded
-conditionalSwapBy s n r = withTarget (lvalueAt s (r .b)) n (λ l. withTarget (lvalueAt s (r .c)) n (λ m. Is (ConditionalSwap (r .a) l m)))
+conditionalSwapBy s n r = withTarget (lvalueAt s (r .b)) n (λ l. withTarget (lvalueAt s (r .c)) n (λ m. Is (ConditionalSwap l m (r .a))))
 
 unfoldable pub decodedBy : List ℕ → ℕ → rules.Node → Decoded
 decodedBy s n r =
@@ -56,6 +56,10 @@ decodedBy s n r =
     (cond (eqb (r .kind) 7) (Is (Call (r .a) (r .b)))
     (cond (eqb (r .kind) 8) (Is (Uncall (r .a) (r .b)))
     (cond (eqb (r .kind) 9) (Is (Block (r .a) (r .b) (r .c))) (expressionBy n r)))))))))
+
+-- Node n, which is no statement, as its case.
+abbrev pub expressionAt : List ℕ → ℕ → Decoded
+expressionAt s n = expressionBy n (nodeOf s n)
 
 -- Node n as its case.
 abbrev pub decodedAt : List ℕ → ℕ → Decoded

@@ -2,11 +2,11 @@
 // Every reader is total: what stands past the end of a part reads as 0.
 ghost use mathlib.Core.Path.{_≡_};
 ghost use Prim.Native.Nat.{_+_, _*_, _<_};
-ghost use lib.ListN.{getD};
+ghost use lib.ListN.{getD, length};
 ghost use Rattle.rules.specs.Image.{le16, le32, le64, headerOf, procedureOf, variableOf, nodeOf, constantOf};
 ghost use Rattle.rules.specs.Form.{classOf};
 ghost use Rattle.records.specs.Records.{asHeader, asProcedure, asVariable, asNode};
-ghost use Rattle.records.specs.Decode.{lvalueBy, lvalueAt, updateBy, swapBy, conditionalSwapBy, expressionBy, decodedBy, decodedAt, argumentAt};
+ghost use Rattle.records.specs.Decode.{expressionAt, lvalueBy, lvalueAt, updateBy, swapBy, conditionalSwapBy, expressionBy, decodedBy, decodedAt, argumentAt};
 
 // "Answer: a number and a place, 0 and 0 when accepted."
 pub struct Verdict {
@@ -149,20 +149,55 @@ pub struct RawNode {
     pub next: u16,
 }
 
-// The record of node n in the nodes' part.
-pub fn record_at(nodes: &[u8], n: u16) -> RawNode
+// The number of two bytes that stand inside, the low one first.
+fn u16_inside(s: &[u8], at: usize) -> u16
+    requires { ⌜ at + 1 < length (now s) ⌝ }
+    ensures { λ r. ⌜ r ≡ le16 (now (s .entry)) at ⌝ }
+{
+    wide(s[at]) + wide(s[at + 1]) * 256
+}
+
+// The record of a node that stands inside the nodes' part.
+fn record_inside(nodes: &[u8], n: u16) -> RawNode
+    requires { ⌜ n * 12 + 11 < length (now nodes) ⌝ }
     ensures { λ r. ⌜ asNode r ≡ nodeOf (now (nodes .entry)) n ⌝ }
 {
     let at = n as usize * 12;
     RawNode {
-        kind: u8_at(nodes, at),
-        operator: u8_at(nodes, at + 1),
-        a: u16_at(nodes, at + 2),
-        b: u16_at(nodes, at + 4),
-        c: u16_at(nodes, at + 6),
-        d: u16_at(nodes, at + 8),
-        next: u16_at(nodes, at + 10),
+        kind: nodes[at],
+        operator: nodes[at + 1],
+        a: u16_inside(&nodes[..], at + 2),
+        b: u16_inside(&nodes[..], at + 4),
+        c: u16_inside(&nodes[..], at + 6),
+        d: u16_inside(&nodes[..], at + 8),
+        next: u16_inside(&nodes[..], at + 10),
     }
+}
+
+// The record of a node that may end past the nodes' part.
+fn record_past(nodes: &[u8], n: u16) -> RawNode
+    ensures { λ r. ⌜ asNode r ≡ nodeOf (now (nodes .entry)) n ⌝ }
+{
+    let at = n as usize * 12;
+    RawNode {
+        kind: u8_at(&nodes[..], at),
+        operator: u8_at(&nodes[..], at + 1),
+        a: u16_at(&nodes[..], at + 2),
+        b: u16_at(&nodes[..], at + 4),
+        c: u16_at(&nodes[..], at + 6),
+        d: u16_at(&nodes[..], at + 8),
+        next: u16_at(&nodes[..], at + 10),
+    }
+}
+
+// The record of node n in the nodes' part.
+pub fn record_at(nodes: &[u8], n: u16) -> RawNode
+    ensures { λ r. ⌜ asNode r ≡ nodeOf (now (nodes .entry)) n ⌝ }
+{
+    if n as usize * 12 + 11 < nodes.len() {
+        return record_inside(&nodes[..], n);
+    }
+    record_past(&nodes[..], n)
 }
 
 // "Kinds 21 to 23 are L-values": the node, the variable that it names, and the index's node.
@@ -183,18 +218,18 @@ pub enum Target {
 pub enum Node {
     Empty,
     Update {
-        operator: u8,
         target: LValue,
         value: u16,
+        operator: u8,
     },
     Swap {
         left: LValue,
         right: LValue,
     },
     ConditionalSwap {
-        condition: u16,
         left: LValue,
         right: LValue,
+        condition: u16,
     },
     If {
         condition: u16,
@@ -276,7 +311,7 @@ fn lvalue_of(n: u16, r: RawNode) -> Target
 pub fn lvalue_at(nodes: &[u8], n: u16) -> Target
     ensures { λ t. ⌜ t ≡ lvalueAt (now (nodes .entry)) n ⌝ }
 {
-    lvalue_of(n, record_at(nodes, n))
+    lvalue_of(n, record_at(&nodes[..], n))
 }
 
 // The refusal of a node whose target is no L-value, or whose kind is none.
@@ -293,13 +328,13 @@ fn refused(place: u16) -> Decoded
 fn update_of(nodes: &[u8], n: u16, r: RawNode) -> Decoded
     ensures { λ x. ⌜ x ≡ updateBy (now (nodes .entry)) n (asNode r) ⌝ }
 {
-    let Target::Place(target) = lvalue_at(nodes, r.a) else {
+    let Target::Place(target) = lvalue_at(&nodes[..], r.a) else {
         return refused(n);
     };
     Decoded::Is(Node::Update {
-        operator: r.operator,
         target: target,
         value: r.b,
+        operator: r.operator,
     })
 }
 
@@ -307,10 +342,10 @@ fn update_of(nodes: &[u8], n: u16, r: RawNode) -> Decoded
 fn swap_of(nodes: &[u8], n: u16, r: RawNode) -> Decoded
     ensures { λ x. ⌜ x ≡ swapBy (now (nodes .entry)) n (asNode r) ⌝ }
 {
-    let Target::Place(left) = lvalue_at(nodes, r.a) else {
+    let Target::Place(left) = lvalue_at(&nodes[..], r.a) else {
         return refused(n);
     };
-    let Target::Place(right) = lvalue_at(nodes, r.b) else {
+    let Target::Place(right) = lvalue_at(&nodes[..], r.b) else {
         return refused(n);
     };
     Decoded::Is(Node::Swap {
@@ -323,16 +358,16 @@ fn swap_of(nodes: &[u8], n: u16, r: RawNode) -> Decoded
 fn conditional_swap_of(nodes: &[u8], n: u16, r: RawNode) -> Decoded
     ensures { λ x. ⌜ x ≡ conditionalSwapBy (now (nodes .entry)) n (asNode r) ⌝ }
 {
-    let Target::Place(left) = lvalue_at(nodes, r.b) else {
+    let Target::Place(left) = lvalue_at(&nodes[..], r.b) else {
         return refused(n);
     };
-    let Target::Place(right) = lvalue_at(nodes, r.c) else {
+    let Target::Place(right) = lvalue_at(&nodes[..], r.c) else {
         return refused(n);
     };
     Decoded::Is(Node::ConditionalSwap {
-        condition: r.a,
         left: left,
         right: right,
+        condition: r.a,
     })
 }
 
@@ -343,9 +378,9 @@ fn taken_apart(nodes: &[u8], n: u16, r: RawNode) -> Decoded
     let kind = r.kind;
     match kind {
         1 => Decoded::Is(Node::Empty),
-        2 => update_of(nodes, n, r),
-        3 => swap_of(nodes, n, r),
-        4 => conditional_swap_of(nodes, n, r),
+        2 => update_of(&nodes[..], n, r),
+        3 => swap_of(&nodes[..], n, r),
+        4 => conditional_swap_of(&nodes[..], n, r),
         5 => Decoded::Is(Node::If {
             condition: r.a,
             yes: r.b,
@@ -397,18 +432,25 @@ fn expression_taken_apart(n: u16, r: RawNode) -> Decoded
     }
 }
 
+// Node n, which is no statement, as its case, or the refusal with the place.
+pub fn expression_at(nodes: &[u8], n: u16) -> Decoded
+    ensures { λ r. ⌜ r ≡ expressionAt (now (nodes .entry)) n ⌝ }
+{
+    expression_taken_apart(n, record_at(&nodes[..], n))
+}
+
 // Node n as its case, or the refusal with the place.
 pub fn node_at(nodes: &[u8], n: u16) -> Decoded
     ensures { λ r. ⌜ r ≡ decodedAt (now (nodes .entry)) n ⌝ }
 {
-    taken_apart(nodes, n, record_at(nodes, n))
+    taken_apart(&nodes[..], n, record_at(&nodes[..], n))
 }
 
 // Node n as an argument with the next one, or the refusal; node `by` refers to it.
 pub fn argument_at(nodes: &[u8], by: u16, n: u16) -> Decoded
     ensures { λ r. ⌜ r ≡ argumentAt (now (nodes .entry)) by n ⌝ }
 {
-    let r = record_at(nodes, n);
+    let r = record_at(&nodes[..], n);
     let Target::Place(target) = lvalue_of(n, r) else {
         return refused(by);
     };
@@ -422,7 +464,7 @@ pub fn argument_at(nodes: &[u8], by: u16, n: u16) -> Decoded
 pub fn next_at(nodes: &[u8], n: u16) -> u16
     ensures { λ r. ⌜ r ≡ nodeOf (now (nodes .entry)) n .next ⌝ }
 {
-    u16_at(nodes, n as usize * 12 + 10)
+    u16_at(&nodes[..], n as usize * 12 + 10)
 }
 
 // What a field is: the classes of the rules.
@@ -499,14 +541,24 @@ const FIELDS: [[u8; 6]; 27] = [
     [0, EXPRESSION, UNUSED, UNUSED, UNUSED, NO_NEXT],
 ];
 
-// The class of a kind's field: the operator (0), a to d (1 to 4) or next (5).
-pub fn class_of(kind: u8, field: usize) -> u8
-    requires { ⌜ field < 6 ⌝ }
-    ensures { λ r. ⌜ r ≡ classOf kind field ⌝ }
+// What the fields of a node are.
+pub struct Classes {
+    pub operator: u8,
+    pub a: u8,
+    pub b: u8,
+    pub c: u8,
+    pub d: u8,
+    pub next: u8,
+}
+
+// The kind's row of the table, which is looked up once for all fields; of a kind that the table does not have, every class is 0.
+pub fn classes_of(kind: u8) -> Classes
+    ensures { λ r. ⌜ r ≡ record { operator = classOf kind 0; a = classOf kind 1; b = classOf kind 2; c = classOf kind 3; d = classOf kind 4; next = classOf kind 5 } ⌝ }
 {
     let k = kind as usize;
     if 27 <= k {
-        return 0;
+        return Classes { operator: 0, a: 0, b: 0, c: 0, d: 0, next: 0 };
     }
-    FIELDS[k][field]
+    let row = FIELDS[k];
+    Classes { operator: row[0], a: row[1], b: row[2], c: row[3], d: row[4], next: row[5] }
 }

@@ -36,7 +36,7 @@ use Rattle.walker.specs.Ways.{fitting}
 pub record UpdateAt (nodes : List ℕ) (n : ℕ) (l : LValue) (v : ℕ) : Type 0 where
   pub known : Known isStatement nodes n
   pub operator : ℕ
-  pub is : decodedAt nodes n ≡ Is (Update operator l v)
+  pub is : decodedAt nodes n ≡ Is (Update l v operator)
 
 pub record SwapAt (nodes : List ℕ) (n : ℕ) (l m : LValue) : Type 0 where
   pub known : Known isStatement nodes n
@@ -44,7 +44,7 @@ pub record SwapAt (nodes : List ℕ) (n : ℕ) (l m : LValue) : Type 0 where
 
 pub record ConditionalAt (nodes : List ℕ) (n e : ℕ) (l m : LValue) : Type 0 where
   pub known : Known isStatement nodes n
-  pub is : decodedAt nodes n ≡ Is (ConditionalSwap e l m)
+  pub is : decodedAt nodes n ≡ Is (ConditionalSwap l m e)
 
 pub record CallAt (nodes : List ℕ) (n q a : ℕ) : Type 0 where
   pub known : Known isStatement nodes n

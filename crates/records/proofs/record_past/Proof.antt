@@ -1,7 +1,7 @@
 -- Each field is its reader's result: the record is joined from seven equations.
 use borrow.Author.Needs.{needs}
-use Rattle.records.proofs.record_at.Statement.{statement}
-use Rattle.records.proofs.record_at.Tie as tie
+use Rattle.records.proofs.record_past.Statement.{statement}
+use Rattle.records.proofs.record_past.Tie as tie
 
 mul-at : tie.Need-mul-at
 mul-at c = search needs
@@ -48,8 +48,8 @@ u16-at-requires-5 c κs = search needs
 returns : tie.Need-returns
 returns c = cc
 
-pub record-at-spec : {M : Type 1} → statement M
-record-at-spec =
+pub record-past-spec : {M : Type 1} → statement M
+record-past-spec =
     tie.close
     (tie.spec
     mul-at
