@@ -57,10 +57,6 @@ decodedBy s n r =
     (cond (eqb (r .kind) 8) (Is (Uncall (r .a) (r .b)))
     (cond (eqb (r .kind) 9) (Is (Block (r .a) (r .b) (r .c))) (expressionBy n r)))))))))
 
--- Node n, which is no statement, as its case.
-abbrev pub expressionAt : List ℕ → ℕ → Decoded
-expressionAt s n = expressionBy n (nodeOf s n)
-
 -- Node n as its case.
 abbrev pub decodedAt : List ℕ → ℕ → Decoded
 decodedAt s n = decodedBy s n (nodeOf s n)

@@ -1,5 +1,6 @@
 pub mod Records
 pub mod Decode
+pub mod Expressions
 pub mod Truth
 pub mod Fits
 pub mod Reading

@@ -1,12 +1,13 @@
 // The header and the four parts of an image, read where they stand, and a node taken apart into its case.
 // Every reader is total: what stands past the end of a part reads as 0.
 ghost use mathlib.Core.Path.{_≡_};
+ghost use mathlib.Core.Bool.{true};
 ghost use Prim.Native.Nat.{_+_, _*_, _<_};
 ghost use lib.ListN.{getD, length};
-ghost use Rattle.rules.specs.Image.{le16, le32, le64, headerOf, procedureOf, variableOf, nodeOf, constantOf};
+ghost use Rattle.rules.specs.Image.{le16, le32, le64, headerOf, procedureOf, variableOf, nodeOf, constantOf, isExpression};
 ghost use Rattle.rules.specs.Form.{classOf};
 ghost use Rattle.records.specs.Records.{asHeader, asProcedure, asVariable, asNode};
-ghost use Rattle.records.specs.Decode.{expressionAt, lvalueBy, lvalueAt, updateBy, swapBy, conditionalSwapBy, expressionBy, decodedBy, decodedAt, argumentAt};
+ghost use Rattle.records.specs.Decode.{lvalueBy, lvalueAt, updateBy, swapBy, conditionalSwapBy, expressionBy, decodedBy, decodedAt, argumentAt};
 
 // "Answer: a number and a place, 0 and 0 when accepted."
 pub struct Verdict {
@@ -432,9 +433,10 @@ fn expression_taken_apart(n: u16, r: RawNode) -> Decoded
     }
 }
 
-// Node n, which is no statement, as its case, or the refusal with the place.
+// Node n, which is an expression, as its case, or the refusal with the place.
 pub fn expression_at(nodes: &[u8], n: u16) -> Decoded
-    ensures { λ r. ⌜ r ≡ expressionAt (now (nodes .entry)) n ⌝ }
+    requires { ⌜ isExpression (nodeOf (now nodes) n .kind) ≡ true ⌝ }
+    ensures { λ r. ⌜ r ≡ decodedAt (now (nodes .entry)) n ⌝ }
 {
     expression_taken_apart(n, record_at(&nodes[..], n))
 }
