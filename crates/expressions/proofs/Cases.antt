@@ -1,11 +1,9 @@
 -- The cases of a node that is an expression: no statement, and an L-value carries the node's own number.
-use Prim.Native.Nat.{ℕ, _≤_, _<_}
+use Prim.Native.Nat.{ℕ}
 use mathlib.Core.Path.{_≡_, refl}
 use mathlib.Core.List.{List, [], _∷_}
-use mathlib.Core.Bool.{true, false}
-use native.Mathlib.Omega.{arith}
-use borrow.Author.Tests.{leb-true, ne-eqb}
-use lib.Dec.{eqb, leb}
+use mathlib.Core.Bool.{true}
+use lib.Dec.{eqb}
 use types.Run.{OneOf, miss}
 use denote.Enum.Declared.{tagOf}
 use Rattle.rules.specs.Image as rules
@@ -16,7 +14,8 @@ use Rattle.records.specs.declared.Decoded.{Decoded}
 use Rattle.records.specs.declared.Decoded.the-variants.{Is, Refused}
 use Rattle.records.proofs.Node.{the-type}
 use Rattle.records.specs.Decode.{lvalueBy, expressionBy, decodedBy, decodedAt, withTarget}
-use Rattle.records.specs.Truth.{both, chosen}
+use Rattle.records.specs.Truth.{chosen}
+use Rattle.records.specs.Expressions.{decoded-expression}
 use Rattle.records.specs.Cases.{nodeOfLValue}
 use Rattle.expressions.specs.Relations.{Readable}
 
@@ -57,23 +56,8 @@ module _ (n : ℕ) (r : rules.Node) where
       (λ e. chosen here (eqb (r .kind) 25) (λ e. tt)
       (λ e. chosen here (eqb (r .kind) 26) (λ e. tt) (λ e. lvalue-expressed))))
 
-  other : (k : ℕ) → k < 20 → isExpression (r .kind) ≡ true → eqb (r .kind) k ≡ false
-  other k small i = let low : 20 ≤ r .kind = leb-true _ _ (both (leb 20 (r .kind)) _ i .0) in ne-eqb (r .kind) k (λ e. omega arith)
-
   expressed : (s : List ℕ) → isExpression (r .kind) ≡ true → here (decodedBy s n r)
-  unfolding decodedBy
-  expressed s i =
-      rw (
-        other 1 (omega arith) i,
-        other 2 (omega arith) i,
-        other 3 (omega arith) i,
-        other 4 (omega arith) i,
-        other 5 (omega arith) i,
-        other 6 (omega arith) i,
-        other 7 (omega arith) i,
-        other 8 (omega arith) i,
-        other 9 (omega arith) i,
-      ) expression-expressed
+  expressed s i = rw (decoded-expression n r s i) expression-expressed
 
 -- The tags of the cases that are no expression.
 abbrev pub others : List ℕ

@@ -12,6 +12,7 @@ use Rattle.rules.specs.Form.{recordFits}
 use Rattle.rules.specs.Machine.{Slot, noSlot, Env, State, Out, done, stop, Command, Found, found, fault}
 use Rattle.records.specs.declared.LValue.{LValue}
 use Rattle.records.specs.declared.LValue.the-variants.{Variable, Element, Unsafe}
+use Rattle.records.specs.Cases.{nodeOfLValue}
 use Rattle.expressions.specs.declared.Run.{Run}
 use Rattle.expressions.specs.declared.Valued.{Valued}
 
@@ -83,6 +84,18 @@ unfoldable pub rootOf : LValue → ℕ
 rootOf (Variable n x) = x
 rootOf (Element n x i) = x
 rootOf (Unsafe n x i) = x
+
+-- The node of its index, which is missing where a variable stands whole.
+unfoldable pub indexOf : LValue → ℕ
+indexOf (Variable n x) = missing
+indexOf (Element n x i) = i
+indexOf (Unsafe n x i) = i
+
+-- The L-value's own node, the variable that it names and the node of its index.
+pub record Numbered (l : LValue) (node root index : ℕ) : Type 0 where
+  pub node-is : node ≡ nodeOfLValue l
+  pub root-is : root ≡ rootOf l
+  pub index-is : index ≡ indexOf l
 
 -- ---- what is worked out
 

@@ -7,11 +7,12 @@ ghost use mathlib.Core.List.{List, [], _∷_};
 ghost use mathlib.Core.Bool.{cond};
 ghost use lib.ListN.{getD, set, length};
 ghost use Rattle.rules.specs.Words.{complement, operate1, updateOf, binaryOf, changedBy, going};
-ghost use Rattle.rules.specs.Image.{Header, Parts, isExpression, variableOf, constantOf, isConstant};
+ghost use Rattle.rules.specs.Image.{missing, Header, Parts, isExpression, variableOf, constantOf, isConstant};
 ghost use Rattle.rules.specs.Tree.{constant, variable, range, readingAt};
 ghost use Rattle.rules.specs.Machine.{Env, Found, found, done, cellEvent, inside, load, divided, andThen, eval, address, arguments, step, change, exchange, lent, blockEnd, cleared, zeros};
-ghost use Rattle.records.specs.Cases.{placeOf};
-ghost use Rattle.expressions.specs.Relations.{answer, written, Emitted, slotOf, Agree, Good, Program, Readable, Indexed, Chained, rootOf, Got, Gets, Does, After, directionOf, Apart, Rows, Lends, Traced};
+ghost use Rattle.records.specs.Cases.{placeOf, nodeOfLValue};
+ghost use Rattle.records.specs.declared.LValue.{LValue};
+ghost use Rattle.expressions.specs.Relations.{answer, written, Emitted, slotOf, Agree, Good, Program, Readable, Indexed, Chained, rootOf, indexOf, Numbered, Got, Gets, Does, After, directionOf, Apart, Rows, Lends, Traced};
 ghost use Rattle.expressions.specs.Names.{WithinLs};
 ghost use Rattle.expressions.specs.Commands.{updating, exchanging, exchangingIf, passing};
 
@@ -141,10 +142,10 @@ fn named(variables: &[u8], constants: &[u8], cells: &[u64], slots: &[u16], trace
       (cond (isConstant (variableOf (now (variables .entry)) x)) (constant n x (constantOf (now (constants .entry)) (variableOf (now (variables .entry)) x .extra))) (variable n x)))
       (now (trace .entry)) entries (now (trace .exit)) r) ⌝ }
 {
-    let record = records::variable_at(variables, x);
+    let record = records::variable_at(&variables[..], x);
     let kind = record.kind;
     if kind == 2 {
-        return plain(records::constant_at(constants, record.extra), entries);
+        return plain(records::constant_at(&constants[..], record.extra), entries);
     }
     loaded(cells, trace, base_of(slots, x), entries)
 }
@@ -211,57 +212,47 @@ pub fn value(nodes: &[u8], variables: &[u8], constants: &[u8], cells: &[u64], sl
     ensures { λ r. ⌜ ((h : Header) (s : Parts) → Program h s (now (nodes .entry)) (now (variables .entry)) (now (constants .entry))
       → Gets (eval (slotOf (now (slots .entry))) (now (cells .entry)) (readingAt h s n .asExpr)) (now (trace .entry)) entries (now (trace .exit)) r) ⌝ }
 {
-    let Decoded::Is(node) = records::node_at(nodes, n) else {
+    let Decoded::Is(node) = records::expression_at(&nodes[..], n) else {
         return refused(5, n, entries);
     };
     match node {
-        Node::Constant { constant } => plain(records::constant_at(constants, constant), entries),
+        Node::Constant { constant } => plain(records::constant_at(&constants[..], constant), entries),
         Node::Value { lvalue } => match lvalue {
-            LValue::Variable { node: _, variable } => named(variables, constants, cells, slots, trace, variable, entries),
+            LValue::Variable { node: _, variable } => named(&variables[..], &constants[..], &cells[..], &slots[..], trace, variable, entries),
             LValue::Element { node, array, index } => {
-                let at = value(nodes, variables, constants, cells, slots, trace, index, entries);
-                fetched(cells, trace, indexed(slots, node, array, at))
+                let at = value(&nodes[..], &variables[..], &constants[..], &cells[..], &slots[..], trace, index, entries);
+                fetched(&cells[..], trace, indexed(&slots[..], node, array, at))
             }
             LValue::Unsafe { node, array, index } => {
-                let at = value(nodes, variables, constants, cells, slots, trace, index, entries);
-                fetched(cells, trace, indexed(slots, node, array, at))
+                let at = value(&nodes[..], &variables[..], &constants[..], &cells[..], &slots[..], trace, index, entries);
+                fetched(&cells[..], trace, indexed(&slots[..], node, array, at))
             }
         },
-        Node::Size { variable } => plain(count_of(slots, variable), entries),
+        Node::Size { variable } => plain(count_of(&slots[..], variable), entries),
         Node::Binary { operator, left, right } => {
-            let v = value(nodes, variables, constants, cells, slots, trace, left, entries);
+            let v = value(&nodes[..], &variables[..], &constants[..], &cells[..], &slots[..], trace, left, entries);
             let refusal = v.number;
             if refusal != 0 {
                 return v;
             }
-            let w = value(nodes, variables, constants, cells, slots, trace, right, v.entries);
+            let w = value(&nodes[..], &variables[..], &constants[..], &cells[..], &slots[..], trace, right, v.entries);
             combined(n, operator, v.value, w)
         }
-        Node::Not { operand } => negated(value(nodes, variables, constants, cells, slots, trace, operand, entries)),
+        Node::Not { operand } => negated(value(&nodes[..], &variables[..], &constants[..], &cells[..], &slots[..], trace, operand, entries)),
         _ => refused(5, n, entries),
     }
 }
 
-// The cell of an L-value, below 131,072.
-pub fn address(nodes: &[u8], variables: &[u8], constants: &[u8], cells: &[u64], slots: &[u16], trace: &mut [u32], target: LValue, entries: u64) -> Valued
-    requires { ⌜ Indexed (now nodes) target ⌝ }
-    ensures { λ r. ⌜ (r .value < 131072) × ((h : Header) (s : Parts) → Program h s (now (nodes .entry)) (now (variables .entry)) (now (constants .entry))
-      → Gets (address (slotOf (now (slots .entry))) (now (cells .entry)) (placeOf h s target)) (now (trace .entry)) entries (now (trace .exit)) r) ⌝ }
+// An L-value as three numbers: its node, the variable that it names, and the index's node, which is missing where a variable stands whole.
+fn node_of(target: LValue) -> u16
+    ensures { λ r. ⌜ r ≡ nodeOfLValue target ⌝ }
 {
     match target {
-        LValue::Variable { node: _, variable } => plain(base_of(slots, variable), entries),
-        LValue::Element { node, array, index } => {
-            let at = value(nodes, variables, constants, cells, slots, trace, index, entries);
-            indexed(slots, node, array, at)
-        }
-        LValue::Unsafe { node, array, index } => {
-            let at = value(nodes, variables, constants, cells, slots, trace, index, entries);
-            indexed(slots, node, array, at)
-        }
+        LValue::Variable { node, variable: _ } => node,
+        LValue::Element { node, array: _, index: _ } => node,
+        LValue::Unsafe { node, array: _, index: _ } => node,
     }
 }
-
-// Statements that hold no statement, once their step is taken
 
 fn root_of(target: LValue) -> u16
     ensures { λ r. ⌜ r ≡ rootOf target ⌝ }
@@ -272,6 +263,41 @@ fn root_of(target: LValue) -> u16
         LValue::Unsafe { node: _, array, index: _ } => array,
     }
 }
+
+fn index_of(target: LValue) -> u16
+    ensures { λ r. ⌜ r ≡ indexOf target ⌝ }
+{
+    match target {
+        LValue::Variable { node: _, variable: _ } => 65535,
+        LValue::Element { node: _, array: _, index } => index,
+        LValue::Unsafe { node: _, array: _, index } => index,
+    }
+}
+
+// The cell of the L-value that these three numbers are, below 131,072.
+fn located(nodes: &[u8], variables: &[u8], constants: &[u8], cells: &[u64], slots: &[u16], trace: &mut [u32], node: u16, root: u16, index: u16, entries: u64) -> Valued
+    requires { ⌜ ((index ≡ missing → ⊥) → Readable isExpression (now nodes) index) ⌝ }
+    ensures { λ r. ⌜ (r .value < 131072) × ((target : LValue) → Indexed (now (nodes .entry)) target → Numbered target node root index
+      → (h : Header) (s : Parts) → Program h s (now (nodes .entry)) (now (variables .entry)) (now (constants .entry))
+      → Gets (address (slotOf (now (slots .entry))) (now (cells .entry)) (placeOf h s target)) (now (trace .entry)) entries (now (trace .exit)) r) ⌝ }
+{
+    if index == 65535 {
+        return plain(base_of(&slots[..], root), entries);
+    }
+    let at = value(&nodes[..], &variables[..], &constants[..], &cells[..], &slots[..], trace, index, entries);
+    indexed(&slots[..], node, root, at)
+}
+
+// The cell of an L-value, below 131,072.
+pub fn address(nodes: &[u8], variables: &[u8], constants: &[u8], cells: &[u64], slots: &[u16], trace: &mut [u32], target: LValue, entries: u64) -> Valued
+    requires { ⌜ Indexed (now nodes) target ⌝ }
+    ensures { λ r. ⌜ (r .value < 131072) × ((h : Header) (s : Parts) → Program h s (now (nodes .entry)) (now (variables .entry)) (now (constants .entry))
+      → Gets (address (slotOf (now (slots .entry))) (now (cells .entry)) (placeOf h s target)) (now (trace .entry)) entries (now (trace .exit)) r) ⌝ }
+{
+    located(&nodes[..], &variables[..], &constants[..], &cells[..], &slots[..], trace, node_of(target), root_of(target), index_of(target), entries)
+}
+
+// Statements that hold no statement, once their step is taken
 
 // The run goes on after what was worked out, or is refused by it.
 pub fn after(run: Run, v: Valued) -> Run
@@ -316,12 +342,12 @@ pub fn update(nodes: &[u8], variables: &[u8], constants: &[u8], cells: &mut [u64
       → Does (updating (slotOf (now (slots .entry))) (directionOf inverse) (updateOf operator) (placeOf h s target) (readingAt h s from .asExpr))
           (now (cells .entry)) (now (trace .entry)) run (now (cells .exit)) (now (trace .exit)) r) ⌝ }
 {
-    let at = address(nodes, variables, constants, cells, slots, trace, target, run.entries);
+    let at = address(&nodes[..], &variables[..], &constants[..], cells, slots, trace, target, run.entries);
     let refusal = at.number;
     if refusal != 0 {
         return after(run, at);
     }
-    let v = value(nodes, variables, constants, cells, slots, trace, from, at.entries);
+    let v = value(&nodes[..], &variables[..], &constants[..], cells, slots, trace, from, at.entries);
     let trouble = v.number;
     if trouble != 0 {
         return after(run, v);
@@ -350,12 +376,12 @@ fn swap_on(nodes: &[u8], variables: &[u8], constants: &[u8], cells: &mut [u64], 
       → Does (exchanging (slotOf (now (slots .entry))) condition (placeOf h s left) (placeOf h s right))
           (now (cells .entry)) (now (trace .entry)) run (now (cells .exit)) (now (trace .exit)) r) ⌝ }
 {
-    let i = address(nodes, variables, constants, cells, slots, trace, left, run.entries);
+    let i = address(&nodes[..], &variables[..], &constants[..], cells, slots, trace, left, run.entries);
     let refusal = i.number;
     if refusal != 0 {
         return after(run, i);
     }
-    let j = address(nodes, variables, constants, cells, slots, trace, right, i.entries);
+    let j = address(&nodes[..], &variables[..], &constants[..], cells, slots, trace, right, i.entries);
     let trouble = j.number;
     if trouble != 0 {
         return after(run, j);
@@ -370,7 +396,7 @@ pub fn swap(nodes: &[u8], variables: &[u8], constants: &[u8], cells: &mut [u64],
       → Does (exchanging (slotOf (now (slots .entry))) 1 (placeOf h s left) (placeOf h s right))
           (now (cells .entry)) (now (trace .entry)) run (now (cells .exit)) (now (trace .exit)) r) ⌝ }
 {
-    swap_on(nodes, variables, constants, cells, slots, trace, 1, left, right, run)
+    swap_on(&nodes[..], &variables[..], &constants[..], cells, slots, trace, 1, left, right, run)
 }
 
 // A conditional swap: condition, indices, then both cells, whether or not they swap.
@@ -380,12 +406,12 @@ pub fn conditional_swap(nodes: &[u8], variables: &[u8], constants: &[u8], cells:
       → Does (exchangingIf (slotOf (now (slots .entry))) (readingAt h s condition .asExpr) (placeOf h s left) (placeOf h s right))
           (now (cells .entry)) (now (trace .entry)) run (now (cells .exit)) (now (trace .exit)) r) ⌝ }
 {
-    let v = value(nodes, variables, constants, cells, slots, trace, condition, run.entries);
+    let v = value(&nodes[..], &variables[..], &constants[..], cells, slots, trace, condition, run.entries);
     let failed = v.number;
     if failed != 0 {
         return after(run, v);
     }
-    swap_on(nodes, variables, constants, cells, slots, trace, v.value, left, right, after(run, v))
+    swap_on(&nodes[..], &variables[..], &constants[..], cells, slots, trace, v.value, left, right, after(run, v))
 }
 
 // Arguments
@@ -449,17 +475,17 @@ pub fn arguments(nodes: &[u8], variables: &[u8], constants: &[u8], cells: &[u64]
     if n == 65535 {
         return Run { number: 0, place: 0, left: run.left, entries: run.entries };
     }
-    let Target::Place(target) = records::lvalue_at(nodes, n) else {
+    let Target::Place(target) = records::lvalue_at(&nodes[..], n) else {
         return Run { number: 5, place: n, left: run.left, entries: run.entries };
     };
-    let at = address(nodes, variables, constants, cells, slots, trace, target, run.entries);
+    let at = address(&nodes[..], &variables[..], &constants[..], cells, slots, trace, target, run.entries);
     let refusal = at.number;
     if refusal != 0 {
         return after(run, at);
     }
     lend(slots, y, target, at.value);
-    let next = records::next_at(nodes, n);
-    arguments(nodes, variables, constants, cells, slots, trace, y + 1, next, after(run, at))
+    let next = records::next_at(&nodes[..], n);
+    arguments(&nodes[..], &variables[..], &constants[..], cells, slots, trace, y + 1, next, after(run, at))
 }
 
 // Blocks

@@ -8,7 +8,7 @@ use borrow.Fn.PlainCycle.{Measures, is, falls, and}
 use Rattle.records.specs.declared.Node.the-variants.{Value}
 use Rattle.records.specs.declared.Decoded.the-variants.{Is}
 use Rattle.records.proofs.constant_at.Reads as constant-at-reads
-use Rattle.records.proofs.node_at.Reads as node-at-reads
+use Rattle.records.proofs.expression_at.Reads as expression-at-reads
 use Rattle.expressions.specs.Meaning.{readable-not-refused}
 use Rattle.expressions.proofs.Values.{index-falls, left-falls, right-falls, operand-falls, value-number, value-named, value-entry, value-size, value-left-refused, value-binary, value-not}
 use Rattle.expressions.proofs.Targets.{element-entry, unsafe-entry}
@@ -38,9 +38,9 @@ value-at t = and 6 value-kinds.ps (is 6 value-kinds.ps μ-value t) value.Pre
 abbrev value-below : ℕ → In 6 value-kinds.ps
 value-below t = and 6 value-kinds.ps (falls 6 value-kinds.ps _<_ μ-value t) value.Pre
 
-value-node-at-requires : (t : ℕ) → value-lts.Need-node-at-requires (
-  node-at-reads.Asked,
-  node-at-reads.Learnt,
+value-expression-at-requires : (t : ℕ) → value-lts.Need-expression-at-requires (
+  expression-at-reads.Asked,
+  expression-at-reads.Learnt,
   refused-reads.Asked,
   refused-reads.Learnt,
   constant-at-reads.Asked,
@@ -62,11 +62,11 @@ value-node-at-requires : (t : ℕ) → value-lts.Need-node-at-requires (
   negated-reads.Asked,
   negated-reads.Learnt,
 ) (value-at t) value.Post
-value-node-at-requires t c κs = search needs
+value-expression-at-requires t c κs = c .before .before .before .before .before .before .pre .1 .classed
 
 value-enum-known-node : (t : ℕ) → value-lts.Need-enum-known-node (
-  node-at-reads.Asked,
-  node-at-reads.Learnt,
+  expression-at-reads.Asked,
+  expression-at-reads.Learnt,
   refused-reads.Asked,
   refused-reads.Learnt,
   constant-at-reads.Asked,
@@ -91,8 +91,8 @@ value-enum-known-node : (t : ℕ) → value-lts.Need-enum-known-node (
 value-enum-known-node t c = search needs
 
 value-enum-told : (t : ℕ) → value-lts.Need-enum-told (
-  node-at-reads.Asked,
-  node-at-reads.Learnt,
+  expression-at-reads.Asked,
+  expression-at-reads.Learnt,
   refused-reads.Asked,
   refused-reads.Learnt,
   constant-at-reads.Asked,
@@ -117,8 +117,8 @@ value-enum-told : (t : ℕ) → value-lts.Need-enum-told (
 value-enum-told t c = search needs
 
 value-refused-requires : (t : ℕ) → value-lts.Need-refused-requires (
-  node-at-reads.Asked,
-  node-at-reads.Learnt,
+  expression-at-reads.Asked,
+  expression-at-reads.Learnt,
   refused-reads.Asked,
   refused-reads.Learnt,
   constant-at-reads.Asked,
@@ -143,8 +143,8 @@ value-refused-requires : (t : ℕ) → value-lts.Need-refused-requires (
 value-refused-requires t c κs = search needs
 
 value-returns : (t : ℕ) → value-lts.Need-returns (
-  node-at-reads.Asked,
-  node-at-reads.Learnt,
+  expression-at-reads.Asked,
+  expression-at-reads.Learnt,
   refused-reads.Asked,
   refused-reads.Learnt,
   constant-at-reads.Asked,
@@ -168,13 +168,13 @@ value-returns : (t : ℕ) → value-lts.Need-returns (
 ) (value-at t) value.Post
 value-returns t c =
     let at-enum-told = c .before in
-    let at-node-at = at-enum-told .before .before in
-    let start = at-node-at .before .before .before .before .before .before .before in
-    λ h s p. absurd (readable-not-refused (start .pre .1) _ _ (sym (at-node-at .node-at .ensures) ∙ at-enum-told .enum-told .given .1))
+    let at-expression-at = at-enum-told .before .before in
+    let start = at-expression-at .before .before .before .before .before .before .before in
+    λ h s p. absurd (readable-not-refused (start .pre .1) _ _ (sym (at-expression-at .expression-at .ensures) ∙ at-enum-told .enum-told .given .1))
 
 value-enum-known-node-2 : (t : ℕ) → value-lts.Need-enum-known-node-2 (
-  node-at-reads.Asked,
-  node-at-reads.Learnt,
+  expression-at-reads.Asked,
+  expression-at-reads.Learnt,
   refused-reads.Asked,
   refused-reads.Learnt,
   constant-at-reads.Asked,
@@ -199,8 +199,8 @@ value-enum-known-node-2 : (t : ℕ) → value-lts.Need-enum-known-node-2 (
 value-enum-known-node-2 t c = search needs
 
 value-constant-at-requires : (t : ℕ) → value-lts.Need-constant-at-requires (
-  node-at-reads.Asked,
-  node-at-reads.Learnt,
+  expression-at-reads.Asked,
+  expression-at-reads.Learnt,
   refused-reads.Asked,
   refused-reads.Learnt,
   constant-at-reads.Asked,
@@ -225,8 +225,8 @@ value-constant-at-requires : (t : ℕ) → value-lts.Need-constant-at-requires (
 value-constant-at-requires t c κs = search needs
 
 value-plain-requires : (t : ℕ) → value-lts.Need-plain-requires (
-  node-at-reads.Asked,
-  node-at-reads.Learnt,
+  expression-at-reads.Asked,
+  expression-at-reads.Learnt,
   refused-reads.Asked,
   refused-reads.Learnt,
   constant-at-reads.Asked,
@@ -251,8 +251,8 @@ value-plain-requires : (t : ℕ) → value-lts.Need-plain-requires (
 value-plain-requires t c κs = search needs
 
 value-enum-known-node-3 : (t : ℕ) → value-lts.Need-enum-known-node-3 (
-  node-at-reads.Asked,
-  node-at-reads.Learnt,
+  expression-at-reads.Asked,
+  expression-at-reads.Learnt,
   refused-reads.Asked,
   refused-reads.Learnt,
   constant-at-reads.Asked,
@@ -277,8 +277,8 @@ value-enum-known-node-3 : (t : ℕ) → value-lts.Need-enum-known-node-3 (
 value-enum-known-node-3 t c = search needs
 
 value-enum-known-lvalue : (t : ℕ) → value-lts.Need-enum-known-lvalue (
-  node-at-reads.Asked,
-  node-at-reads.Learnt,
+  expression-at-reads.Asked,
+  expression-at-reads.Learnt,
   refused-reads.Asked,
   refused-reads.Learnt,
   constant-at-reads.Asked,
@@ -303,8 +303,8 @@ value-enum-known-lvalue : (t : ℕ) → value-lts.Need-enum-known-lvalue (
 value-enum-known-lvalue t c = search needs
 
 value-named-requires : (t : ℕ) → value-lts.Need-named-requires (
-  node-at-reads.Asked,
-  node-at-reads.Learnt,
+  expression-at-reads.Asked,
+  expression-at-reads.Learnt,
   refused-reads.Asked,
   refused-reads.Learnt,
   constant-at-reads.Asked,
@@ -329,8 +329,8 @@ value-named-requires : (t : ℕ) → value-lts.Need-named-requires (
 value-named-requires t c κs = search needs
 
 value-enum-known-lvalue-2 : (t : ℕ) → value-lts.Need-enum-known-lvalue-2 (
-  node-at-reads.Asked,
-  node-at-reads.Learnt,
+  expression-at-reads.Asked,
+  expression-at-reads.Learnt,
   refused-reads.Asked,
   refused-reads.Learnt,
   constant-at-reads.Asked,
@@ -355,8 +355,8 @@ value-enum-known-lvalue-2 : (t : ℕ) → value-lts.Need-enum-known-lvalue-2 (
 value-enum-known-lvalue-2 t c = search needs
 
 value-value-requires : (t : ℕ) → value-lts.Need-value-requires (
-  node-at-reads.Asked,
-  node-at-reads.Learnt,
+  expression-at-reads.Asked,
+  expression-at-reads.Learnt,
   refused-reads.Asked,
   refused-reads.Learnt,
   constant-at-reads.Asked,
@@ -382,16 +382,16 @@ value-value-requires t c κs =
     let at-lvalue2 = c .before .before in
     let at-node3 = at-lvalue2 .before .before .before in
     let at-node = at-node3 .before .before .before in
-    let at-node-at = at-node .before .before in
-    let start = at-node-at .before .before .before .before .before .before .before in
-    let decoded = sym (at-node-at .node-at .ensures) ∙ at-node .node .given .1 ∙ ap (λ x. Is x) (at-node3 .node3 .given .1) in
+    let at-expression-at = at-node .before .before in
+    let start = at-expression-at .before .before .before .before .before .before .before in
+    let decoded = sym (at-expression-at .expression-at .ensures) ∙ at-node .node .given .1 ∙ ap (λ x. Is x) (at-node3 .node3 .given .1) in
     let found = element-entry _ _ _ (at-lvalue2 .lvalue2 .given .1) in
     let f = index-falls (start .pre .1) _ found decoded in
     (omega (arith, f .behind, f .readable .inside, f .readable .few, start .pre .0), f .readable)
 
 value-indexed-requires : (t : ℕ) → value-lts.Need-indexed-requires (
-  node-at-reads.Asked,
-  node-at-reads.Learnt,
+  expression-at-reads.Asked,
+  expression-at-reads.Learnt,
   refused-reads.Asked,
   refused-reads.Learnt,
   constant-at-reads.Asked,
@@ -416,8 +416,8 @@ value-indexed-requires : (t : ℕ) → value-lts.Need-indexed-requires (
 value-indexed-requires t c κs = search needs
 
 value-fetched-requires : (t : ℕ) → value-lts.Need-fetched-requires (
-  node-at-reads.Asked,
-  node-at-reads.Learnt,
+  expression-at-reads.Asked,
+  expression-at-reads.Learnt,
   refused-reads.Asked,
   refused-reads.Learnt,
   constant-at-reads.Asked,
@@ -442,8 +442,8 @@ value-fetched-requires : (t : ℕ) → value-lts.Need-fetched-requires (
 value-fetched-requires t c κs = search needs
 
 value-enum-known-lvalue-3 : (t : ℕ) → value-lts.Need-enum-known-lvalue-3 (
-  node-at-reads.Asked,
-  node-at-reads.Learnt,
+  expression-at-reads.Asked,
+  expression-at-reads.Learnt,
   refused-reads.Asked,
   refused-reads.Learnt,
   constant-at-reads.Asked,
@@ -468,8 +468,8 @@ value-enum-known-lvalue-3 : (t : ℕ) → value-lts.Need-enum-known-lvalue-3 (
 value-enum-known-lvalue-3 t c = search needs
 
 value-value-requires-2 : (t : ℕ) → value-lts.Need-value-requires-2 (
-  node-at-reads.Asked,
-  node-at-reads.Learnt,
+  expression-at-reads.Asked,
+  expression-at-reads.Learnt,
   refused-reads.Asked,
   refused-reads.Learnt,
   constant-at-reads.Asked,
@@ -495,16 +495,16 @@ value-value-requires-2 t c κs =
     let at-lvalue3 = c .before .before in
     let at-node3 = at-lvalue3 .before .before .before in
     let at-node = at-node3 .before .before .before in
-    let at-node-at = at-node .before .before in
-    let start = at-node-at .before .before .before .before .before .before .before in
-    let decoded = sym (at-node-at .node-at .ensures) ∙ at-node .node .given .1 ∙ ap (λ x. Is x) (at-node3 .node3 .given .1) in
+    let at-expression-at = at-node .before .before in
+    let start = at-expression-at .before .before .before .before .before .before .before in
+    let decoded = sym (at-expression-at .expression-at .ensures) ∙ at-node .node .given .1 ∙ ap (λ x. Is x) (at-node3 .node3 .given .1) in
     let found = unsafe-entry _ _ _ (at-lvalue3 .lvalue3 .given .1) in
     let f = index-falls (start .pre .1) _ found decoded in
     (omega (arith, f .behind, f .readable .inside, f .readable .few, start .pre .0), f .readable)
 
 value-indexed-requires-2 : (t : ℕ) → value-lts.Need-indexed-requires-2 (
-  node-at-reads.Asked,
-  node-at-reads.Learnt,
+  expression-at-reads.Asked,
+  expression-at-reads.Learnt,
   refused-reads.Asked,
   refused-reads.Learnt,
   constant-at-reads.Asked,
@@ -529,8 +529,8 @@ value-indexed-requires-2 : (t : ℕ) → value-lts.Need-indexed-requires-2 (
 value-indexed-requires-2 t c κs = search needs
 
 value-fetched-requires-2 : (t : ℕ) → value-lts.Need-fetched-requires-2 (
-  node-at-reads.Asked,
-  node-at-reads.Learnt,
+  expression-at-reads.Asked,
+  expression-at-reads.Learnt,
   refused-reads.Asked,
   refused-reads.Learnt,
   constant-at-reads.Asked,
@@ -555,8 +555,8 @@ value-fetched-requires-2 : (t : ℕ) → value-lts.Need-fetched-requires-2 (
 value-fetched-requires-2 t c κs = search needs
 
 value-enum-known-node-4 : (t : ℕ) → value-lts.Need-enum-known-node-4 (
-  node-at-reads.Asked,
-  node-at-reads.Learnt,
+  expression-at-reads.Asked,
+  expression-at-reads.Learnt,
   refused-reads.Asked,
   refused-reads.Learnt,
   constant-at-reads.Asked,
@@ -581,8 +581,8 @@ value-enum-known-node-4 : (t : ℕ) → value-lts.Need-enum-known-node-4 (
 value-enum-known-node-4 t c = search needs
 
 value-count-of-requires : (t : ℕ) → value-lts.Need-count-of-requires (
-  node-at-reads.Asked,
-  node-at-reads.Learnt,
+  expression-at-reads.Asked,
+  expression-at-reads.Learnt,
   refused-reads.Asked,
   refused-reads.Learnt,
   constant-at-reads.Asked,
@@ -607,8 +607,8 @@ value-count-of-requires : (t : ℕ) → value-lts.Need-count-of-requires (
 value-count-of-requires t c κs = search needs
 
 value-plain-requires-2 : (t : ℕ) → value-lts.Need-plain-requires-2 (
-  node-at-reads.Asked,
-  node-at-reads.Learnt,
+  expression-at-reads.Asked,
+  expression-at-reads.Learnt,
   refused-reads.Asked,
   refused-reads.Learnt,
   constant-at-reads.Asked,
@@ -633,8 +633,8 @@ value-plain-requires-2 : (t : ℕ) → value-lts.Need-plain-requires-2 (
 value-plain-requires-2 t c κs = search needs
 
 value-enum-known-node-5 : (t : ℕ) → value-lts.Need-enum-known-node-5 (
-  node-at-reads.Asked,
-  node-at-reads.Learnt,
+  expression-at-reads.Asked,
+  expression-at-reads.Learnt,
   refused-reads.Asked,
   refused-reads.Learnt,
   constant-at-reads.Asked,
@@ -659,8 +659,8 @@ value-enum-known-node-5 : (t : ℕ) → value-lts.Need-enum-known-node-5 (
 value-enum-known-node-5 t c = search needs
 
 value-value-requires-3 : (t : ℕ) → value-lts.Need-value-requires-3 (
-  node-at-reads.Asked,
-  node-at-reads.Learnt,
+  expression-at-reads.Asked,
+  expression-at-reads.Learnt,
   refused-reads.Asked,
   refused-reads.Learnt,
   constant-at-reads.Asked,
@@ -685,15 +685,15 @@ value-value-requires-3 : (t : ℕ) → value-lts.Need-value-requires-3 (
 value-value-requires-3 t c κs =
     let at-node5 = c .before .before in
     let at-node = at-node5 .before .before .before in
-    let at-node-at = at-node .before .before in
-    let start = at-node-at .before .before .before .before .before .before .before in
-    let decoded = sym (at-node-at .node-at .ensures) ∙ at-node .node .given .1 ∙ ap (λ x. Is x) (at-node5 .node5 .given .1) in
+    let at-expression-at = at-node .before .before in
+    let start = at-expression-at .before .before .before .before .before .before .before in
+    let decoded = sym (at-expression-at .expression-at .ensures) ∙ at-node .node .given .1 ∙ ap (λ x. Is x) (at-node5 .node5 .given .1) in
     let f = left-falls (start .pre .1) _ _ _ decoded in
     (omega (arith, f .behind, f .readable .inside, f .readable .few, start .pre .0), f .readable)
 
 value-same-length : (t : ℕ) → value-lts.Need-same-length (
-  node-at-reads.Asked,
-  node-at-reads.Learnt,
+  expression-at-reads.Asked,
+  expression-at-reads.Learnt,
   refused-reads.Asked,
   refused-reads.Learnt,
   constant-at-reads.Asked,
@@ -718,8 +718,8 @@ value-same-length : (t : ℕ) → value-lts.Need-same-length (
 value-same-length t c = search needs
 
 value-returns-2 : (t : ℕ) → value-lts.Need-returns-2 (
-  node-at-reads.Asked,
-  node-at-reads.Learnt,
+  expression-at-reads.Asked,
+  expression-at-reads.Learnt,
   refused-reads.Asked,
   refused-reads.Learnt,
   constant-at-reads.Asked,
@@ -745,14 +745,14 @@ value-returns-2 t c =
     let at-value3 = c .before .before .before in
     let at-node5 = at-value3 .before .before .before in
     let at-node = at-node5 .before .before .before in
-    let at-node-at = at-node .before .before in
-    let start = at-node-at .before .before .before .before .before .before .before in
-    let decoded = sym (at-node-at .node-at .ensures) ∙ at-node .node .given .1 ∙ ap (λ x. Is x) (at-node5 .node5 .given .1) in
+    let at-expression-at = at-node .before .before in
+    let start = at-expression-at .before .before .before .before .before .before .before in
+    let decoded = sym (at-expression-at .expression-at .ensures) ∙ at-node .node .given .1 ∙ ap (λ x. Is x) (at-node5 .node5 .given .1) in
     λ h s p. value-left-refused (start .pre .1) _ _ h s p _ _ _ decoded _ (at-value3 .value3 .ensures h s p) (c .if1 .taken)
 
 value-value-requires-4 : (t : ℕ) → value-lts.Need-value-requires-4 (
-  node-at-reads.Asked,
-  node-at-reads.Learnt,
+  expression-at-reads.Asked,
+  expression-at-reads.Learnt,
   refused-reads.Asked,
   refused-reads.Learnt,
   constant-at-reads.Asked,
@@ -777,15 +777,15 @@ value-value-requires-4 : (t : ℕ) → value-lts.Need-value-requires-4 (
 value-value-requires-4 t c κs =
     let at-node5 = c .before .before .before .before .before .before .before in
     let at-node = at-node5 .before .before .before in
-    let at-node-at = at-node .before .before in
-    let start = at-node-at .before .before .before .before .before .before .before in
-    let decoded = sym (at-node-at .node-at .ensures) ∙ at-node .node .given .1 ∙ ap (λ x. Is x) (at-node5 .node5 .given .1) in
+    let at-expression-at = at-node .before .before in
+    let start = at-expression-at .before .before .before .before .before .before .before in
+    let decoded = sym (at-expression-at .expression-at .ensures) ∙ at-node .node .given .1 ∙ ap (λ x. Is x) (at-node5 .node5 .given .1) in
     let f = right-falls (start .pre .1) _ _ _ decoded in
     (omega (arith, f .behind, f .readable .inside, f .readable .few, start .pre .0), f .readable)
 
 value-combined-requires : (t : ℕ) → value-lts.Need-combined-requires (
-  node-at-reads.Asked,
-  node-at-reads.Learnt,
+  expression-at-reads.Asked,
+  expression-at-reads.Learnt,
   refused-reads.Asked,
   refused-reads.Learnt,
   constant-at-reads.Asked,
@@ -810,8 +810,8 @@ value-combined-requires : (t : ℕ) → value-lts.Need-combined-requires (
 value-combined-requires t c κs = search needs
 
 value-enum-known-node-6 : (t : ℕ) → value-lts.Need-enum-known-node-6 (
-  node-at-reads.Asked,
-  node-at-reads.Learnt,
+  expression-at-reads.Asked,
+  expression-at-reads.Learnt,
   refused-reads.Asked,
   refused-reads.Learnt,
   constant-at-reads.Asked,
@@ -836,8 +836,8 @@ value-enum-known-node-6 : (t : ℕ) → value-lts.Need-enum-known-node-6 (
 value-enum-known-node-6 t c = search needs
 
 value-value-requires-5 : (t : ℕ) → value-lts.Need-value-requires-5 (
-  node-at-reads.Asked,
-  node-at-reads.Learnt,
+  expression-at-reads.Asked,
+  expression-at-reads.Learnt,
   refused-reads.Asked,
   refused-reads.Learnt,
   constant-at-reads.Asked,
@@ -862,15 +862,15 @@ value-value-requires-5 : (t : ℕ) → value-lts.Need-value-requires-5 (
 value-value-requires-5 t c κs =
     let at-node6 = c .before .before in
     let at-node = at-node6 .before .before .before in
-    let at-node-at = at-node .before .before in
-    let start = at-node-at .before .before .before .before .before .before .before in
-    let decoded = sym (at-node-at .node-at .ensures) ∙ at-node .node .given .1 ∙ ap (λ x. Is x) (at-node6 .node6 .given .1) in
+    let at-expression-at = at-node .before .before in
+    let start = at-expression-at .before .before .before .before .before .before .before in
+    let decoded = sym (at-expression-at .expression-at .ensures) ∙ at-node .node .given .1 ∙ ap (λ x. Is x) (at-node6 .node6 .given .1) in
     let f = operand-falls (start .pre .1) _ decoded in
     (omega (arith, f .behind, f .readable .inside, f .readable .few, start .pre .0), f .readable)
 
 value-negated-requires : (t : ℕ) → value-lts.Need-negated-requires (
-  node-at-reads.Asked,
-  node-at-reads.Learnt,
+  expression-at-reads.Asked,
+  expression-at-reads.Learnt,
   refused-reads.Asked,
   refused-reads.Learnt,
   constant-at-reads.Asked,
@@ -895,8 +895,8 @@ value-negated-requires : (t : ℕ) → value-lts.Need-negated-requires (
 value-negated-requires t c κs = search needs
 
 value-refused-requires-2 : (t : ℕ) → value-lts.Need-refused-requires-2 (
-  node-at-reads.Asked,
-  node-at-reads.Learnt,
+  expression-at-reads.Asked,
+  expression-at-reads.Learnt,
   refused-reads.Asked,
   refused-reads.Learnt,
   constant-at-reads.Asked,
@@ -921,8 +921,8 @@ value-refused-requires-2 : (t : ℕ) → value-lts.Need-refused-requires-2 (
 value-refused-requires-2 t c κs = search needs
 
 value-returns-3 : (t : ℕ) → value-lts.Need-returns-3 (
-  node-at-reads.Asked,
-  node-at-reads.Learnt,
+  expression-at-reads.Asked,
+  expression-at-reads.Learnt,
   refused-reads.Asked,
   refused-reads.Learnt,
   constant-at-reads.Asked,
@@ -948,14 +948,14 @@ value-returns-3 t c =
     let at-constant-at = c .before in
     let at-node2 = at-constant-at .before .before in
     let at-node = at-node2 .before .before .before in
-    let at-node-at = at-node .before .before in
-    let start = at-node-at .before .before .before .before .before .before .before in
-    let decoded = sym (at-node-at .node-at .ensures) ∙ at-node .node .given .1 ∙ ap (λ x. Is x) (at-node2 .node2 .given .1) in
+    let at-expression-at = at-node .before .before in
+    let start = at-expression-at .before .before .before .before .before .before .before in
+    let decoded = sym (at-expression-at .expression-at .ensures) ∙ at-node .node .given .1 ∙ ap (λ x. Is x) (at-node2 .node2 .given .1) in
     λ h s p. rw (c .plain .ensures) (value-number (start .pre .1) _ _ h s p _ _ decoded (at-constant-at .constant-at .ensures) (search needs))
 
 value-same-length-2 : (t : ℕ) → value-lts.Need-same-length-2 (
-  node-at-reads.Asked,
-  node-at-reads.Learnt,
+  expression-at-reads.Asked,
+  expression-at-reads.Learnt,
   refused-reads.Asked,
   refused-reads.Learnt,
   constant-at-reads.Asked,
@@ -980,8 +980,8 @@ value-same-length-2 : (t : ℕ) → value-lts.Need-same-length-2 (
 value-same-length-2 t c = search needs
 
 value-returns-4 : (t : ℕ) → value-lts.Need-returns-4 (
-  node-at-reads.Asked,
-  node-at-reads.Learnt,
+  expression-at-reads.Asked,
+  expression-at-reads.Learnt,
   refused-reads.Asked,
   refused-reads.Learnt,
   constant-at-reads.Asked,
@@ -1008,14 +1008,14 @@ value-returns-4 t c =
     let at-lvalue = at-named .before .before .before in
     let at-node3 = at-lvalue .before .before .before in
     let at-node = at-node3 .before .before .before in
-    let at-node-at = at-node .before .before in
-    let start = at-node-at .before .before .before .before .before .before .before in
-    let decoded = sym (at-node-at .node-at .ensures) ∙ at-node .node .given .1 ∙ ap (λ x. Is x) (at-node3 .node3 .given .1 ∙ ap (λ l. Value l) (at-lvalue .lvalue .given .1)) in
+    let at-expression-at = at-node .before .before in
+    let start = at-expression-at .before .before .before .before .before .before .before in
+    let decoded = sym (at-expression-at .expression-at .ensures) ∙ at-node .node .given .1 ∙ ap (λ x. Is x) (at-node3 .node3 .given .1 ∙ ap (λ l. Value l) (at-lvalue .lvalue .given .1)) in
     λ h s p. value-named (start .pre .1) _ _ h s p _ _ decoded (at-named .named .ensures _)
 
 value-same-length-3 : (t : ℕ) → value-lts.Need-same-length-3 (
-  node-at-reads.Asked,
-  node-at-reads.Learnt,
+  expression-at-reads.Asked,
+  expression-at-reads.Learnt,
   refused-reads.Asked,
   refused-reads.Learnt,
   constant-at-reads.Asked,
@@ -1040,8 +1040,8 @@ value-same-length-3 : (t : ℕ) → value-lts.Need-same-length-3 (
 value-same-length-3 t c = search needs
 
 value-returns-5 : (t : ℕ) → value-lts.Need-returns-5 (
-  node-at-reads.Asked,
-  node-at-reads.Learnt,
+  expression-at-reads.Asked,
+  expression-at-reads.Learnt,
   refused-reads.Asked,
   refused-reads.Learnt,
   constant-at-reads.Asked,
@@ -1070,16 +1070,16 @@ value-returns-5 t c =
     let at-lvalue2 = at-value .before .before .before in
     let at-node3 = at-lvalue2 .before .before .before in
     let at-node = at-node3 .before .before .before in
-    let at-node-at = at-node .before .before in
-    let start = at-node-at .before .before .before .before .before .before .before in
-    let decoded = sym (at-node-at .node-at .ensures) ∙ at-node .node .given .1 ∙ ap (λ x. Is x) (at-node3 .node3 .given .1) in
+    let at-expression-at = at-node .before .before in
+    let start = at-expression-at .before .before .before .before .before .before .before in
+    let decoded = sym (at-expression-at .expression-at .ensures) ∙ at-node .node .given .1 ∙ ap (λ x. Is x) (at-node3 .node3 .given .1) in
     let found = element-entry _ _ _ (at-lvalue2 .lvalue2 .given .1) in
     λ h s p. value-entry (start .pre .1) _ _ h s p _ found decoded
     (λ events u. at-fetched .fetched .ensures _ _ (at-indexed .indexed .ensures .1 _ _ _ (at-value .value .ensures h s p events u)))
 
 value-same-length-4 : (t : ℕ) → value-lts.Need-same-length-4 (
-  node-at-reads.Asked,
-  node-at-reads.Learnt,
+  expression-at-reads.Asked,
+  expression-at-reads.Learnt,
   refused-reads.Asked,
   refused-reads.Learnt,
   constant-at-reads.Asked,
@@ -1104,8 +1104,8 @@ value-same-length-4 : (t : ℕ) → value-lts.Need-same-length-4 (
 value-same-length-4 t c = search needs
 
 value-returns-6 : (t : ℕ) → value-lts.Need-returns-6 (
-  node-at-reads.Asked,
-  node-at-reads.Learnt,
+  expression-at-reads.Asked,
+  expression-at-reads.Learnt,
   refused-reads.Asked,
   refused-reads.Learnt,
   constant-at-reads.Asked,
@@ -1134,16 +1134,16 @@ value-returns-6 t c =
     let at-lvalue3 = at-value2 .before .before .before in
     let at-node3 = at-lvalue3 .before .before .before in
     let at-node = at-node3 .before .before .before in
-    let at-node-at = at-node .before .before in
-    let start = at-node-at .before .before .before .before .before .before .before in
-    let decoded = sym (at-node-at .node-at .ensures) ∙ at-node .node .given .1 ∙ ap (λ x. Is x) (at-node3 .node3 .given .1) in
+    let at-expression-at = at-node .before .before in
+    let start = at-expression-at .before .before .before .before .before .before .before in
+    let decoded = sym (at-expression-at .expression-at .ensures) ∙ at-node .node .given .1 ∙ ap (λ x. Is x) (at-node3 .node3 .given .1) in
     let found = unsafe-entry _ _ _ (at-lvalue3 .lvalue3 .given .1) in
     λ h s p. value-entry (start .pre .1) _ _ h s p _ found decoded
     (λ events u. at-fetched2 .fetched2 .ensures _ _ (at-indexed2 .indexed2 .ensures .1 _ _ _ (at-value2 .value2 .ensures h s p events u)))
 
 value-returns-7 : (t : ℕ) → value-lts.Need-returns-7 (
-  node-at-reads.Asked,
-  node-at-reads.Learnt,
+  expression-at-reads.Asked,
+  expression-at-reads.Learnt,
   refused-reads.Asked,
   refused-reads.Learnt,
   constant-at-reads.Asked,
@@ -1169,14 +1169,14 @@ value-returns-7 t c =
     let at-count-of = c .before in
     let at-node4 = at-count-of .before .before in
     let at-node = at-node4 .before .before .before in
-    let at-node-at = at-node .before .before in
-    let start = at-node-at .before .before .before .before .before .before .before in
-    let decoded = sym (at-node-at .node-at .ensures) ∙ at-node .node .given .1 ∙ ap (λ x. Is x) (at-node4 .node4 .given .1) in
+    let at-expression-at = at-node .before .before in
+    let start = at-expression-at .before .before .before .before .before .before .before in
+    let decoded = sym (at-expression-at .expression-at .ensures) ∙ at-node .node .given .1 ∙ ap (λ x. Is x) (at-node4 .node4 .given .1) in
     λ h s p. rw (c .plain2 .ensures, at-count-of .count-of .ensures .0) (value-size (start .pre .1) _ _ h s p _ decoded)
 
 value-same-length-5 : (t : ℕ) → value-lts.Need-same-length-5 (
-  node-at-reads.Asked,
-  node-at-reads.Learnt,
+  expression-at-reads.Asked,
+  expression-at-reads.Learnt,
   refused-reads.Asked,
   refused-reads.Learnt,
   constant-at-reads.Asked,
@@ -1201,8 +1201,8 @@ value-same-length-5 : (t : ℕ) → value-lts.Need-same-length-5 (
 value-same-length-5 t c = search needs
 
 value-returns-8 : (t : ℕ) → value-lts.Need-returns-8 (
-  node-at-reads.Asked,
-  node-at-reads.Learnt,
+  expression-at-reads.Asked,
+  expression-at-reads.Learnt,
   refused-reads.Asked,
   refused-reads.Learnt,
   constant-at-reads.Asked,
@@ -1230,14 +1230,14 @@ value-returns-8 t c =
     let at-value3 = at-if1 .before .before .before in
     let at-node5 = at-value3 .before .before .before in
     let at-node = at-node5 .before .before .before in
-    let at-node-at = at-node .before .before in
-    let start = at-node-at .before .before .before .before .before .before .before in
-    let decoded = sym (at-node-at .node-at .ensures) ∙ at-node .node .given .1 ∙ ap (λ x. Is x) (at-node5 .node5 .given .1) in
+    let at-expression-at = at-node .before .before in
+    let start = at-expression-at .before .before .before .before .before .before .before in
+    let decoded = sym (at-expression-at .expression-at .ensures) ∙ at-node .node .given .1 ∙ ap (λ x. Is x) (at-node5 .node5 .given .1) in
     λ h s p. value-binary (start .pre .1) _ _ h s p _ _ _ decoded _ (at-value3 .value3 .ensures h s p) (at-if1 .if1 .left) _ (at-value4 .value4 .ensures h s p) (c .combined .ensures)
 
 value-same-length-6 : (t : ℕ) → value-lts.Need-same-length-6 (
-  node-at-reads.Asked,
-  node-at-reads.Learnt,
+  expression-at-reads.Asked,
+  expression-at-reads.Learnt,
   refused-reads.Asked,
   refused-reads.Learnt,
   constant-at-reads.Asked,
@@ -1262,8 +1262,8 @@ value-same-length-6 : (t : ℕ) → value-lts.Need-same-length-6 (
 value-same-length-6 t c = search needs
 
 value-returns-9 : (t : ℕ) → value-lts.Need-returns-9 (
-  node-at-reads.Asked,
-  node-at-reads.Learnt,
+  expression-at-reads.Asked,
+  expression-at-reads.Learnt,
   refused-reads.Asked,
   refused-reads.Learnt,
   constant-at-reads.Asked,
@@ -1289,14 +1289,14 @@ value-returns-9 t c =
     let at-value5 = c .before .before .before in
     let at-node6 = at-value5 .before .before .before in
     let at-node = at-node6 .before .before .before in
-    let at-node-at = at-node .before .before in
-    let start = at-node-at .before .before .before .before .before .before .before in
-    let decoded = sym (at-node-at .node-at .ensures) ∙ at-node .node .given .1 ∙ ap (λ x. Is x) (at-node6 .node6 .given .1) in
+    let at-expression-at = at-node .before .before in
+    let start = at-expression-at .before .before .before .before .before .before .before in
+    let decoded = sym (at-expression-at .expression-at .ensures) ∙ at-node .node .given .1 ∙ ap (λ x. Is x) (at-node6 .node6 .given .1) in
     λ h s p. value-not (start .pre .1) _ _ h s p _ decoded (at-value5 .value5 .ensures h s p) (c .negated .ensures)
 
 value-returns-10 : (t : ℕ) → value-lts.Need-returns-10 (
-  node-at-reads.Asked,
-  node-at-reads.Learnt,
+  expression-at-reads.Asked,
+  expression-at-reads.Learnt,
   refused-reads.Asked,
   refused-reads.Learnt,
   constant-at-reads.Asked,
@@ -1321,14 +1321,14 @@ value-returns-10 : (t : ℕ) → value-lts.Need-returns-10 (
 value-returns-10 t c =
     let at-match2 = c .before in
     let at-node = at-match2 .before .before in
-    let at-node-at = at-node .before .before in
-    let start = at-node-at .before .before .before .before .before .before .before in
-    λ h s p. absurd (case-no-other (start .pre .1) _ (sym (at-node-at .node-at .ensures) ∙ at-node .node .given .1) (at-match2 .match2 .keys6))
+    let at-expression-at = at-node .before .before in
+    let start = at-expression-at .before .before .before .before .before .before .before in
+    λ h s p. absurd (case-no-other (start .pre .1) _ (sym (at-expression-at .expression-at .ensures) ∙ at-node .node .given .1) (at-match2 .match2 .keys6))
 
 pub +value-spec : {M : Type 1} → statement M
 +value-spec = close μ-value λ t. value-lts.spec (
-  node-at-reads.Asked,
-  node-at-reads.Learnt,
+  expression-at-reads.Asked,
+  expression-at-reads.Learnt,
   refused-reads.Asked,
   refused-reads.Learnt,
   constant-at-reads.Asked,
@@ -1352,7 +1352,7 @@ pub +value-spec : {M : Type 1} → statement M
 )
     (value-at t)
     value.Post
-    (value-node-at-requires t)
+    (value-expression-at-requires t)
     (value-enum-known-node t)
     (value-enum-told t)
     (value-refused-requires t)
