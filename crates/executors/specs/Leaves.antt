@@ -63,11 +63,11 @@ module _ {nodes procedures variables constants : List ℕ} (w : World nodes proc
     empty-done m = rw m (λ c h. goes-on h)
 
     module _ (cells′ trace′ : List ℕ) (run′ : Run) where
-      pub update-done : (o : ℕ) (l : case.LValue) (v : ℕ) → Means (w .h) (w .s) n (Update l v o)
+      pub update-done : (l : case.LValue) (v o : ℕ) → Means (w .h) (w .s) n (Update l v o)
           → (Good (slotOf slots (rootOf l)) → Does (updating (slotOf slots) d (updateOf o) (placeOf (w .h) (w .s) l) (exprAt w v)) cells trace run cells′ trace′ run′)
           → Does (performed w p d ρ (stmtAt w n)) cells trace run cells′ trace′ run′
       unfolding performing Within
-      update-done o l v m leaf =
+      update-done l v o m leaf =
           let i = rw m at fine in
           rw (m, ← updating-same (slotOf slots) ρ lo hi (st .agree .rows) d (updateOf o) (placeOf (w .h) (w .s) l) (exprAt w v) (i .0) (i .1)) (leaf (root-good l (i .0)))
 
@@ -79,11 +79,11 @@ module _ {nodes procedures variables constants : List ℕ} (w : World nodes proc
           let i = rw m at fine in
           rw (m, ← exchanging-same (slotOf slots) ρ lo hi (st .agree .rows) (placeOf (w .h) (w .s) l) (placeOf (w .h) (w .s) k) (i .0) (i .1) 1) leaf
 
-      pub conditional-done : (e : ℕ) (l k : case.LValue) → Means (w .h) (w .s) n (ConditionalSwap l k e)
+      pub conditional-done : (l k : case.LValue) (e : ℕ) → Means (w .h) (w .s) n (ConditionalSwap l k e)
           → Does (exchangingIf (slotOf slots) (exprAt w e) (placeOf (w .h) (w .s) l) (placeOf (w .h) (w .s) k)) cells trace run cells′ trace′ run′
           → Does (performed w p d ρ (stmtAt w n)) cells trace run cells′ trace′ run′
       unfolding performing Within
-      conditional-done e l k m leaf =
+      conditional-done l k e m leaf =
           let i = rw m at fine in
           rw (m, ← exchangingIf-same (slotOf slots) ρ lo hi (st .agree .rows) (exprAt w e) (placeOf (w .h) (w .s) l) (placeOf (w .h) (w .s) k) (i .0) (i .1) (i .2)) leaf
 

@@ -43,7 +43,7 @@ fn decided(nodes: &[u8], variables: &[u8], constants: &[u8], cells: &[u64], slot
     ensures { λ r. ⌜ Decides (now (nodes .entry)) (now (variables .entry)) (now (constants .entry)) (now (slots .entry)) (now (cells .entry)) (now (trace .entry)) run
       condition chosen otherwise (now (trace .exit)) r ⌝ }
 {
-    let v = expressions::value(nodes, variables, constants, cells, slots, trace, condition, run.entries);
+    let v = expressions::value(&nodes[..], &variables[..], &constants[..], cells, slots, trace, condition, run.entries);
     let on = after(run, v);
     let refusal = v.number;
     if refusal != 0 {
@@ -63,13 +63,13 @@ fn bounded(nodes: &[u8], variables: &[u8], constants: &[u8], cells: &[u64], slot
     ensures { λ r. ⌜ Bounds (now (nodes .entry)) (now (variables .entry)) (now (constants .entry)) (now (slots .entry)) (now (cells .entry)) (now (trace .entry)) run
       n counter first second body (now (trace .exit)) r ⌝ }
 {
-    let v = expressions::value(nodes, variables, constants, cells, slots, trace, first, run.entries);
+    let v = expressions::value(&nodes[..], &variables[..], &constants[..], cells, slots, trace, first, run.entries);
     let one = after(run, v);
     let refusal = v.number;
     if refusal != 0 {
         return Rest::Finished(one);
     }
-    let w = expressions::value(nodes, variables, constants, cells, slots, trace, second, one.entries);
+    let w = expressions::value(&nodes[..], &variables[..], &constants[..], cells, slots, trace, second, one.entries);
     let two = after(one, w);
     let trouble = w.number;
     if trouble != 0 {
@@ -89,18 +89,18 @@ fn performed(nodes: &[u8], variables: &[u8], constants: &[u8], cells: &mut [u64]
     match node {
         Node::Empty => Rest::Finished(run),
         Node::Update { operator, target, value } => {
-            Rest::Finished(expressions::update(nodes, variables, constants, cells, slots, trace, inverse, operator, target, value, run))
+            Rest::Finished(expressions::update(&nodes[..], &variables[..], &constants[..], cells, slots, trace, inverse, operator, target, value, run))
         }
-        Node::Swap { left, right } => Rest::Finished(expressions::swap(nodes, variables, constants, cells, slots, trace, left, right, run)),
+        Node::Swap { left, right } => Rest::Finished(expressions::swap(&nodes[..], &variables[..], &constants[..], cells, slots, trace, left, right, run)),
         Node::ConditionalSwap { condition, left, right } => {
-            Rest::Finished(expressions::conditional_swap(nodes, variables, constants, cells, slots, trace, condition, left, right, run))
+            Rest::Finished(expressions::conditional_swap(&nodes[..], &variables[..], &constants[..], cells, slots, trace, condition, left, right, run))
         }
-        Node::If { condition, yes, no } => decided(nodes, variables, constants, cells, slots, trace, condition, yes, no, run),
+        Node::If { condition, yes, no } => decided(&nodes[..], &variables[..], &constants[..], cells, slots, trace, condition, yes, no, run),
         Node::For { counter, first, second, body } => {
             if inverse {
-                return bounded(nodes, variables, constants, cells, slots, trace, n, counter, second, first, body, run);
+                return bounded(&nodes[..], &variables[..], &constants[..], cells, slots, trace, n, counter, second, first, body, run);
             }
-            bounded(nodes, variables, constants, cells, slots, trace, n, counter, first, second, body, run)
+            bounded(&nodes[..], &variables[..], &constants[..], cells, slots, trace, n, counter, first, second, body, run)
         }
         Node::Call { procedure, argument } => Rest::Call { inverse: inverse, procedure: procedure, argument: argument, run: run },
         Node::Uncall { procedure, argument } => Rest::Call { inverse: !inverse, procedure: procedure, argument: argument, run: run },
@@ -121,10 +121,10 @@ fn begun(nodes: &[u8], variables: &[u8], constants: &[u8], cells: &mut [u64], sl
     if refusal != 0 {
         return Rest::Finished(taken);
     }
-    let Decoded::Is(node) = records::node_at(nodes, n) else {
+    let Decoded::Is(node) = records::node_at(&nodes[..], n) else {
         return Rest::Finished(refused(5, n, taken));
     };
-    performed(nodes, variables, constants, cells, slots, trace, inverse, n, node, taken)
+    performed(&nodes[..], &variables[..], &constants[..], cells, slots, trace, inverse, n, node, taken)
 }
 
 // The statement at node n of procedure p.
@@ -133,16 +133,16 @@ pub fn statement(nodes: &[u8], procedures: &[u8], variables: &[u8], constants: &
     ensures { λ r. ⌜ Executes (now (nodes .entry)) (now (variables .entry)) (now (constants .entry)) (now (slots .entry)) (now (cells .entry)) (now (trace .entry)) run
       (now (procedures .entry)) p (directionOf inverse) (now (cells .exit)) (now (slots .exit)) (now (trace .exit)) r (λ w. stmtAt w n) ⌝ }
 {
-    let rest = begun(nodes, variables, constants, cells, slots, trace, inverse, n, run);
+    let rest = begun(&nodes[..], &variables[..], &constants[..], cells, slots, trace, inverse, n, run);
     match rest {
         Rest::Finished(done) => done,
-        Rest::Branch(m, on) => statement(nodes, procedures, variables, constants, cells, slots, trace, inverse, p, m, on),
-        Rest::Turns(it, on) => turns(nodes, procedures, variables, constants, cells, slots, trace, inverse, p, it, on),
+        Rest::Branch(m, on) => statement(&nodes[..], &procedures[..], &variables[..], &constants[..], cells, slots, trace, inverse, p, m, on),
+        Rest::Turns(it, on) => turns(&nodes[..], &procedures[..], &variables[..], &constants[..], cells, slots, trace, inverse, p, it, on),
         Rest::Call { inverse: turned, procedure, argument, run: on } => {
-            called(nodes, procedures, variables, constants, cells, slots, trace, turned, p, procedure, argument, on)
+            called(&nodes[..], &procedures[..], &variables[..], &constants[..], cells, slots, trace, turned, p, procedure, argument, on)
         }
         Rest::Block { first, count, statement: m, run: on } => {
-            let done = statements(nodes, procedures, variables, constants, cells, slots, trace, inverse, p, m, on);
+            let done = statements(&nodes[..], &procedures[..], &variables[..], &constants[..], cells, slots, trace, inverse, p, m, on);
             let refusal = done.number;
             if refusal != 0 {
                 return done;
@@ -161,21 +161,21 @@ fn statements(nodes: &[u8], procedures: &[u8], variables: &[u8], constants: &[u8
     if n == 65535 {
         return run;
     }
-    let next = records::next_at(nodes, n);
+    let next = records::next_at(&nodes[..], n);
     if inverse {
-        let later = statements(nodes, procedures, variables, constants, cells, slots, trace, inverse, p, next, run);
+        let later = statements(&nodes[..], &procedures[..], &variables[..], &constants[..], cells, slots, trace, inverse, p, next, run);
         let refusal = later.number;
         if refusal != 0 {
             return later;
         }
-        return statement(nodes, procedures, variables, constants, cells, slots, trace, inverse, p, n, later);
+        return statement(&nodes[..], &procedures[..], &variables[..], &constants[..], cells, slots, trace, inverse, p, n, later);
     }
-    let one = statement(nodes, procedures, variables, constants, cells, slots, trace, inverse, p, n, run);
+    let one = statement(&nodes[..], &procedures[..], &variables[..], &constants[..], cells, slots, trace, inverse, p, n, run);
     let trouble = one.number;
     if trouble != 0 {
         return one;
     }
-    statements(nodes, procedures, variables, constants, cells, slots, trace, inverse, p, next, one)
+    statements(&nodes[..], &procedures[..], &variables[..], &constants[..], cells, slots, trace, inverse, p, next, one)
 }
 
 // The turns of a for whose bounds are known: while the counter differs from the second. There are never more than steps left.
@@ -198,7 +198,7 @@ fn turns(nodes: &[u8], procedures: &[u8], variables: &[u8], constants: &[u8], ce
         if refusal != 0 {
             return taken;
         }
-        done = statement(nodes, procedures, variables, constants, cells, slots, trace, inverse, p, it.body, taken);
+        done = statement(&nodes[..], &procedures[..], &variables[..], &constants[..], cells, slots, trace, inverse, p, it.body, taken);
         let trouble = done.number;
         if trouble != 0 {
             return done;
@@ -221,12 +221,12 @@ fn called(nodes: &[u8], procedures: &[u8], variables: &[u8], constants: &[u8], c
     if p <= q {
         return refused(12, argument, run);
     }
-    let callee = records::procedure_at(procedures, q);
+    let callee = records::procedure_at(&procedures[..], q);
     let first = callee.first as usize;
-    let lent = expressions::arguments(nodes, variables, constants, cells, slots, trace, first, argument, run);
+    let lent = expressions::arguments(&nodes[..], &variables[..], &constants[..], cells, slots, trace, first, argument, run);
     let refusal = lent.number;
     if refusal != 0 {
         return lent;
     }
-    statement(nodes, procedures, variables, constants, cells, slots, trace, inverse, q, callee.body, lent)
+    statement(&nodes[..], &procedures[..], &variables[..], &constants[..], cells, slots, trace, inverse, q, callee.body, lent)
 }
