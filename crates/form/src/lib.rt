@@ -243,12 +243,13 @@ fn record_fits(h: Header, nodes: &[u8], n: u16, r: RawNode) -> bool
     ensures { λ x. ⌜ x ≡ recordFits (asHeader h) (now (nodes .entry)) n (asNode r) ⌝ }
 {
     let known = ((1 <= r.kind) & (r.kind <= 9)) | ((20 <= r.kind) & (r.kind <= 26));
-    let operator = operator_fits(records::class_of(r.kind, 0), r.operator);
-    let a = field_fits(h, nodes, n, r.b, records::class_of(r.kind, 1), r.a);
-    let b = field_fits(h, nodes, n, r.b, records::class_of(r.kind, 2), r.b);
-    let c = field_fits(h, nodes, n, r.b, records::class_of(r.kind, 3), r.c);
-    let d = field_fits(h, nodes, n, r.b, records::class_of(r.kind, 4), r.d);
-    let next = field_fits(h, nodes, n, r.b, records::class_of(r.kind, 5), r.next);
+    let classes = records::classes_of(r.kind);
+    let operator = operator_fits(classes.operator, r.operator);
+    let a = field_fits(h, nodes, n, r.b, classes.a, r.a);
+    let b = field_fits(h, nodes, n, r.b, classes.b, r.b);
+    let c = field_fits(h, nodes, n, r.b, classes.c, r.c);
+    let d = field_fits(h, nodes, n, r.b, classes.d, r.d);
+    let next = field_fits(h, nodes, n, r.b, classes.next, r.next);
     known & (operator & (a & (b & (c & (d & next)))))
 }
 

@@ -66,10 +66,11 @@ fn count_field(class: u8, v: u16, counts: &mut [u8])
 fn count_node(r: RawNode, counts: &mut [u8])
     ensures { λ _. ⌜ now (counts .exit) ≡ tally (referencesOf (asNode r)) (now (counts .entry)) ⌝ }
 {
-    count_field(records::class_of(r.kind, 1), r.a, counts);
-    count_field(records::class_of(r.kind, 2), r.b, counts);
-    count_field(records::class_of(r.kind, 3), r.c, counts);
-    count_field(records::class_of(r.kind, 4), r.d, counts);
+    let classes = records::classes_of(r.kind);
+    count_field(classes.a, r.a, counts);
+    count_field(classes.b, r.b, counts);
+    count_field(classes.c, r.c, counts);
+    count_field(classes.d, r.d, counts);
     bump(counts, r.next);
 }
 
@@ -168,10 +169,11 @@ fn hand(class: u8, v: u16, plain: u16, first: u16, marks: &mut [u16])
 fn hand_on(r: RawNode, own: u16, plain: u16, first: u16, marks: &mut [u16])
     ensures { λ _. ⌜ now (marks .exit) ≡ handedOn (childBy plain first) (asNode r) own (now (marks .entry)) ⌝ }
 {
-    hand(records::class_of(r.kind, 1), r.a, plain, first, marks);
-    hand(records::class_of(r.kind, 2), r.b, plain, first, marks);
-    hand(records::class_of(r.kind, 3), r.c, plain, first, marks);
-    hand(records::class_of(r.kind, 4), r.d, plain, first, marks);
+    let classes = records::classes_of(r.kind);
+    hand(classes.a, r.a, plain, first, marks);
+    hand(classes.b, r.b, plain, first, marks);
+    hand(classes.c, r.c, plain, first, marks);
+    hand(classes.d, r.d, plain, first, marks);
     mark(marks, r.next, own);
 }
 
