@@ -1,4 +1,5 @@
 // Verdicts 1 to 6: the layout, the records, the table of fields, the tree.
+// Slices are handed on whole, as `&s[..]`: a slice copied as it stands is a pair in memory, and waits there.
 ghost use mathlib.Core.Path.{_≡_};
 ghost use mathlib.Core.Bool.{not, _&&_};
 ghost use Prim.Native.Nat.{_+_, _*_, _≤_};
@@ -38,7 +39,7 @@ fn format(image: &[u8]) -> Verdict
     ensures { λ r. ⌜ asVerdict r ≡ formatRefusal (now (image .entry)) ⌝ }
 {
     let bytes = image.len();
-    let other = records::u16_at(image, 0) != 1;
+    let other = records::u16_at(&image[..], 0) != 1;
     refused_if(1, (bytes < 20) | ((65535 < bytes) | other))
 }
 
@@ -105,7 +106,7 @@ fn first_bad_procedure(h: Header, procedures: &[u8]) -> u16
     let mut shared: u16 = 0;
     let mut p: u16 = 0;
     while p < count {
-        let r = records::procedure_at(procedures, p);
+        let r = records::procedure_at(&procedures[..], p);
         if !procedure_fits(h, p, shared, r) {
             return p;
         }
@@ -122,7 +123,7 @@ pub fn owner(h: Header, procedures: &[u8], x: u16) -> u16
     let count = h.procedures;
     let mut p: u16 = 0;
     while p < count {
-        let r = records::procedure_at(procedures, p);
+        let r = records::procedure_at(&procedures[..], p);
         if (x as u32) < r.first as u32 + r.count as u32 {
             return p;
         }
@@ -135,8 +136,8 @@ pub fn owner(h: Header, procedures: &[u8], x: u16) -> u16
 pub fn is_parameter(h: Header, procedures: &[u8], x: u16) -> bool
     ensures { λ r. ⌜ r ≡ isParameter (asHeader h) (now (procedures .entry)) x ⌝ }
 {
-    let p = owner(h, procedures, x);
-    let r = records::procedure_at(procedures, p);
+    let p = owner(h, &procedures[..], x);
+    let r = records::procedure_at(&procedures[..], p);
     (x as u32) < r.first as u32 + r.parameters as u32
 }
 
@@ -177,8 +178,8 @@ fn first_bad_variable(h: Header, procedures: &[u8], variables: &[u8]) -> u16
     let count = h.variables;
     let mut x: u16 = 0;
     while x < count {
-        let parameter = is_parameter(h, procedures, x);
-        if !variable_fits(h, parameter, records::variable_at(variables, x)) {
+        let parameter = is_parameter(h, &procedures[..], x);
+        if !variable_fits(h, parameter, records::variable_at(&variables[..], x)) {
             return x;
         }
         x += 1;
@@ -190,7 +191,7 @@ fn first_bad_variable(h: Header, procedures: &[u8], variables: &[u8]) -> u16
 fn refers(h: Header, nodes: &[u8], n: u16, v: u16, low: u8, high: u8) -> bool
     ensures { λ r. ⌜ r ≡ refers (asHeader h) (now (nodes .entry)) n (between low high) v ⌝ }
 {
-    let kind = records::u8_at(nodes, v as usize * 12);
+    let kind = records::u8_at(&nodes[..], v as usize * 12);
     (n < v) & ((v < h.nodes) & ((low <= kind) & (kind <= high)))
 }
 
@@ -200,18 +201,18 @@ fn field_fits(h: Header, nodes: &[u8], n: u16, count: u16, class: u8, v: u16) ->
 {
     match class {
         0 => v == 0,
-        1 => refers(h, nodes, n, v, 20, 26),
-        2 => refers(h, nodes, n, v, 21, 23),
-        3 => refers(h, nodes, n, v, 1, 9),
-        4 => (v == 65535) | refers(h, nodes, n, v, 21, 23),
-        5 => (v == 65535) | refers(h, nodes, n, v, 1, 9),
+        1 => refers(h, &nodes[..], n, v, 20, 26),
+        2 => refers(h, &nodes[..], n, v, 21, 23),
+        3 => refers(h, &nodes[..], n, v, 1, 9),
+        4 => (v == 65535) | refers(h, &nodes[..], n, v, 21, 23),
+        5 => (v == 65535) | refers(h, &nodes[..], n, v, 1, 9),
         6 => v < h.procedures,
         7 => v < h.variables,
         8 => v < h.constants,
         9 => range_fits(h, v, count),
         10 => true,
-        11 => (v == 65535) | refers(h, nodes, n, v, 1, 9),
-        12 => (v == 65535) | refers(h, nodes, n, v, 21, 23),
+        11 => (v == 65535) | refers(h, &nodes[..], n, v, 1, 9),
+        12 => (v == 65535) | refers(h, &nodes[..], n, v, 21, 23),
         _ => v == 65535,
     }
 }
@@ -245,11 +246,11 @@ fn record_fits(h: Header, nodes: &[u8], n: u16, r: RawNode) -> bool
     let known = ((1 <= r.kind) & (r.kind <= 9)) | ((20 <= r.kind) & (r.kind <= 26));
     let classes = records::classes_of(r.kind);
     let operator = operator_fits(classes.operator, r.operator);
-    let a = field_fits(h, nodes, n, r.b, classes.a, r.a);
-    let b = field_fits(h, nodes, n, r.b, classes.b, r.b);
-    let c = field_fits(h, nodes, n, r.b, classes.c, r.c);
-    let d = field_fits(h, nodes, n, r.b, classes.d, r.d);
-    let next = field_fits(h, nodes, n, r.b, classes.next, r.next);
+    let a = field_fits(h, &nodes[..], n, r.b, classes.a, r.a);
+    let b = field_fits(h, &nodes[..], n, r.b, classes.b, r.b);
+    let c = field_fits(h, &nodes[..], n, r.b, classes.c, r.c);
+    let d = field_fits(h, &nodes[..], n, r.b, classes.d, r.d);
+    let next = field_fits(h, &nodes[..], n, r.b, classes.next, r.next);
     known & (operator & (a & (b & (c & (d & next)))))
 }
 
@@ -260,7 +261,7 @@ fn first_bad_node(h: Header, nodes: &[u8]) -> u16
     let count = h.nodes;
     let mut n: u16 = 0;
     while n < count {
-        if !record_fits(h, nodes, n, records::record_at(nodes, n)) {
+        if !record_fits(h, &nodes[..], n, records::record_at(&nodes[..], n)) {
             return n;
         }
         n += 1;
@@ -273,19 +274,19 @@ fn parts_form(h: Header, procedures: &[u8], variables: &[u8], nodes: &[u8]) -> V
     requires { ⌜ h .nodes ≤ 4096 ⌝ }
     ensures { λ r. ⌜ asVerdict r ≡ formRefusal (asHeader h) (formParts (now (procedures .entry)) (now (variables .entry)) (now (nodes .entry))) ⌝ }
 {
-    let third = tree::lowest(3, first_bad_procedure(h, procedures), h.procedures);
+    let third = tree::lowest(3, first_bad_procedure(h, &procedures[..]), h.procedures);
     if third.number != 0 {
         return third;
     }
-    let fourth = tree::lowest(4, first_bad_variable(h, procedures, variables), h.variables);
+    let fourth = tree::lowest(4, first_bad_variable(h, &procedures[..], &variables[..]), h.variables);
     if fourth.number != 0 {
         return fourth;
     }
-    let fifth = tree::lowest(5, first_bad_node(h, nodes), h.nodes);
+    let fifth = tree::lowest(5, first_bad_node(h, &nodes[..]), h.nodes);
     if fifth.number != 0 {
         return fifth;
     }
-    tree::tree(h, procedures, nodes)
+    tree::tree(h, &procedures[..], &nodes[..])
 }
 
 // 3 to 6 of an image whose layout holds: the parts are handed on where they stand.
@@ -309,14 +310,14 @@ fn laid_form(image: &[u8], h: Header) -> Verdict
 pub fn form(image: &[u8]) -> Verdict
     ensures { λ r. ⌜ asVerdict r ≡ (formatRefusal (now (image .entry)) then layoutRefusal (now (image .entry)) then formRefusal (headerOf (now (image .entry))) (partsOf (now (image .entry)))) ⌝ }
 {
-    let first = format(image);
+    let first = format(&image[..]);
     if first.number != 0 {
         return first;
     }
-    let h = records::header_of(image);
+    let h = records::header_of(&image[..]);
     let second = layout(h, image.len());
     if second.number != 0 {
         return second;
     }
-    laid_form(image, h)
+    laid_form(&image[..], h)
 }

@@ -1,4 +1,5 @@
 // Names as marks, and the names that an expression or a statement holds.
+// Slices are handed on whole, as `&s[..]`: a slice copied as it stands is a pair in memory, and waits there.
 ghost use mathlib.Core.Path.{_≡_};
 ghost use mathlib.Core.List.{List, [], _∷_, _++_};
 ghost use Prim.Native.Nat.{ℕ, _+_, _≤_, _<_};
@@ -58,19 +59,19 @@ pub fn occurs(nodes: &[u8], n: u16, x: u16) -> bool
     requires { ⌜ Known isExpression (now nodes) n ⌝ }
     ensures { λ r. ⌜ AsExpression (now (nodes .entry)) n (λ s e. r ≡ member x (variables e)) ⌝ }
 {
-    let Decoded::Is(node) = records::node_at(nodes, n) else {
+    let Decoded::Is(node) = records::node_at(&nodes[..], n) else {
         return false;
     };
     match node {
         Node::Constant { constant } => false,
         Node::Value { lvalue } => match lvalue {
             LValue::Variable { node, variable } => variable == x,
-            LValue::Element { node, array, index } => array == x || occurs(nodes, index, x),
-            LValue::Unsafe { node, array, index } => array == x || occurs(nodes, index, x),
+            LValue::Element { node, array, index } => array == x || occurs(&nodes[..], index, x),
+            LValue::Unsafe { node, array, index } => array == x || occurs(&nodes[..], index, x),
         },
         Node::Size { variable } => false,
-        Node::Binary { operator, left, right } => occurs(nodes, left, x) || occurs(nodes, right, x),
-        Node::Not { operand } => occurs(nodes, operand, x),
+        Node::Binary { operator, left, right } => occurs(&nodes[..], left, x) || occurs(&nodes[..], right, x),
+        Node::Not { operand } => occurs(&nodes[..], operand, x),
         _ => false,
     }
 }
@@ -80,7 +81,7 @@ pub fn mark_variables(nodes: &[u8], n: u16, marks: &mut [u8; 1024])
     requires { ⌜ Known isExpression (now nodes) n ⌝ }
     ensures { λ _. ⌜ AsExpression (now (nodes .entry)) n (λ s e. Adds (now (marks .entry)) (now (marks .exit)) (variables e)) ⌝ }
 {
-    let Decoded::Is(node) = records::node_at(nodes, n) else {
+    let Decoded::Is(node) = records::node_at(&nodes[..], n) else {
         return;
     };
     match node {
@@ -89,19 +90,19 @@ pub fn mark_variables(nodes: &[u8], n: u16, marks: &mut [u8; 1024])
             LValue::Variable { node, variable } => mark(marks, variable),
             LValue::Element { node, array, index } => {
                 mark(marks, array);
-                mark_variables(nodes, index, marks);
+                mark_variables(&nodes[..], index, marks);
             }
             LValue::Unsafe { node, array, index } => {
                 mark(marks, array);
-                mark_variables(nodes, index, marks);
+                mark_variables(&nodes[..], index, marks);
             }
         },
         Node::Size { variable } => {}
         Node::Binary { operator, left, right } => {
-            mark_variables(nodes, left, marks);
-            mark_variables(nodes, right, marks);
+            mark_variables(&nodes[..], left, marks);
+            mark_variables(&nodes[..], right, marks);
         }
-        Node::Not { operand } => mark_variables(nodes, operand, marks),
+        Node::Not { operand } => mark_variables(&nodes[..], operand, marks),
         _ => {}
     }
 }
@@ -135,8 +136,8 @@ pub fn index_occurs(nodes: &[u8], l: LValue, x: u16) -> bool
 {
     match l {
         LValue::Variable { node, variable } => false,
-        LValue::Element { node, array, index } => occurs(nodes, index, x),
-        LValue::Unsafe { node, array, index } => occurs(nodes, index, x),
+        LValue::Element { node, array, index } => occurs(&nodes[..], index, x),
+        LValue::Unsafe { node, array, index } => occurs(&nodes[..], index, x),
     }
 }
 
@@ -147,8 +148,8 @@ fn mark_index(nodes: &[u8], l: LValue, marks: &mut [u8; 1024])
 {
     match l {
         LValue::Variable { node, variable } => {}
-        LValue::Element { node, array, index } => mark_variables(nodes, index, marks),
-        LValue::Unsafe { node, array, index } => mark_variables(nodes, index, marks),
+        LValue::Element { node, array, index } => mark_variables(&nodes[..], index, marks),
+        LValue::Unsafe { node, array, index } => mark_variables(&nodes[..], index, marks),
     }
 }
 
@@ -160,13 +161,13 @@ pub fn roots_marked(nodes: &[u8], n: u16, marks: &[u8; 1024]) -> bool
     if n == 65535 {
         return false;
     }
-    let Target::Place(l) = records::lvalue_at(nodes, n) else {
+    let Target::Place(l) = records::lvalue_at(&nodes[..], n) else {
         return false;
     };
     if is_marked(marks, root_of(l)) {
         return true;
     }
-    roots_marked(nodes, records::next_at(nodes, n), marks)
+    roots_marked(&nodes[..], records::next_at(&nodes[..], n), marks)
 }
 
 // Whether a root of the arguments from node n on comes twice, or is marked already. Marks the roots that it passes.
@@ -177,7 +178,7 @@ fn roots_repeat(nodes: &[u8], n: u16, seen: &mut [u8; 1024]) -> bool
     if n == 65535 {
         return false;
     }
-    let Target::Place(l) = records::lvalue_at(nodes, n) else {
+    let Target::Place(l) = records::lvalue_at(&nodes[..], n) else {
         return false;
     };
     let root = root_of(l);
@@ -185,7 +186,7 @@ fn roots_repeat(nodes: &[u8], n: u16, seen: &mut [u8; 1024]) -> bool
         return true;
     }
     mark(seen, root);
-    roots_repeat(nodes, records::next_at(nodes, n), seen)
+    roots_repeat(&nodes[..], records::next_at(&nodes[..], n), seen)
 }
 
 // Marks the variables of the indices of the arguments from node n on.
@@ -196,11 +197,11 @@ fn mark_indices(nodes: &[u8], n: u16, marks: &mut [u8; 1024])
     if n == 65535 {
         return;
     }
-    let Target::Place(l) = records::lvalue_at(nodes, n) else {
+    let Target::Place(l) = records::lvalue_at(&nodes[..], n) else {
         return;
     };
-    mark_index(nodes, l, marks);
-    mark_indices(nodes, records::next_at(nodes, n), marks);
+    mark_index(&nodes[..], l, marks);
+    mark_indices(&nodes[..], records::next_at(&nodes[..], n), marks);
 }
 
 // 11: "two arguments have one root, or an argument's root occurs in any argument's index"
@@ -209,12 +210,12 @@ pub fn arguments_clash(nodes: &[u8], n: u16) -> bool
     ensures { λ r. ⌜ AsArguments (now (nodes .entry)) n (λ s ls. r ≡ (repeats (roots ls) || share (roots ls) (indices ls))) ⌝ }
 {
     let mut seen = fresh();
-    if roots_repeat(nodes, n, &mut seen) {
+    if roots_repeat(&nodes[..], n, &mut seen) {
         return true;
     }
     let mut used = fresh();
-    mark_indices(nodes, n, &mut used);
-    roots_marked(nodes, n, &used)
+    mark_indices(&nodes[..], n, &mut used);
+    roots_marked(&nodes[..], n, &used)
 }
 
 // "Changed means root of a target or argument": whether the statement at node n changes a marked name.
@@ -222,7 +223,7 @@ pub fn changes(nodes: &[u8], n: u16, marks: &[u8; 1024]) -> bool
     requires { ⌜ Known isStatement (now nodes) n ⌝ }
     ensures { λ r. ⌜ AsStatement (now (nodes .entry)) n (λ s t. Touches (now (marks .entry)) (changed t) r) ⌝ }
 {
-    let Decoded::Is(node) = records::node_at(nodes, n) else {
+    let Decoded::Is(node) = records::node_at(&nodes[..], n) else {
         return false;
     };
     match node {
@@ -230,11 +231,11 @@ pub fn changes(nodes: &[u8], n: u16, marks: &[u8; 1024]) -> bool
         Node::Update { operator, target, value } => is_marked(marks, root_of(target)),
         Node::Swap { left, right } => either_marked(marks, left, right),
         Node::ConditionalSwap { condition, left, right } => either_marked(marks, left, right),
-        Node::If { condition, yes, no } => changes(nodes, yes, marks) || changes(nodes, no, marks),
-        Node::For { counter, first, second, body } => changes(nodes, body, marks),
-        Node::Call { procedure, argument } => roots_marked(nodes, argument, marks),
-        Node::Uncall { procedure, argument } => roots_marked(nodes, argument, marks),
-        Node::Block { first, count, statement } => list_changes(nodes, statement, marks),
+        Node::If { condition, yes, no } => changes(&nodes[..], yes, marks) || changes(&nodes[..], no, marks),
+        Node::For { counter, first, second, body } => changes(&nodes[..], body, marks),
+        Node::Call { procedure, argument } => roots_marked(&nodes[..], argument, marks),
+        Node::Uncall { procedure, argument } => roots_marked(&nodes[..], argument, marks),
+        Node::Block { first, count, statement } => list_changes(&nodes[..], statement, marks),
         _ => false,
     }
 }
@@ -254,8 +255,8 @@ fn list_changes(nodes: &[u8], n: u16, marks: &[u8; 1024]) -> bool
     if n == 65535 {
         return false;
     }
-    if changes(nodes, n, marks) {
+    if changes(&nodes[..], n, marks) {
         return true;
     }
-    list_changes(nodes, records::next_at(nodes, n), marks)
+    list_changes(&nodes[..], records::next_at(&nodes[..], n), marks)
 }

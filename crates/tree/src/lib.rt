@@ -1,4 +1,5 @@
 // Verdict 6, "no tree": every node is referred to exactly once, and stands where it may.
+// Slices are handed on whole, as `&s[..]`: a slice copied as it stands is a pair in memory, and waits there.
 ghost use mathlib.Core.Path.{_≡_};
 ghost use mathlib.Core.Bool.{not, cond};
 ghost use Prim.Native.Nat.{_+_, _≤_, _<_};
@@ -80,7 +81,7 @@ fn count_nodes(nodes: &[u8], count: u16, counts: &mut [u8])
 {
     let mut n: u16 = 0;
     while n < count {
-        count_node(records::record_at(nodes, n), counts);
+        count_node(records::record_at(&nodes[..], n), counts);
         n += 1;
     }
 }
@@ -91,7 +92,7 @@ fn count_bodies(procedures: &[u8], count: u16, counts: &mut [u8])
 {
     let mut p: u16 = 0;
     while p < count {
-        let r = records::procedure_at(procedures, p);
+        let r = records::procedure_at(&procedures[..], p);
         bump(counts, r.body);
         p += 1;
     }
@@ -103,7 +104,7 @@ fn first_not_once(counts: &[u8], count: u16) -> u16
 {
     let mut n: u16 = 0;
     while n < count {
-        if records::u8_at(counts, n as usize) != 1 {
+        if records::u8_at(&counts[..], n as usize) != 1 {
             return n;
         }
         n += 1;
@@ -117,8 +118,8 @@ fn references(h: Header, procedures: &[u8], nodes: &[u8]) -> Verdict
     ensures { λ r. ⌜ asVerdict r ≡ referenceRefusal (asHeader h) (treeParts (now (procedures .entry)) (now (nodes .entry))) ⌝ }
 {
     let mut counts = [0u8; 4096];
-    count_bodies(procedures, h.procedures, &mut counts);
-    count_nodes(nodes, h.nodes, &mut counts);
+    count_bodies(&procedures[..], h.procedures, &mut counts);
+    count_nodes(&nodes[..], h.nodes, &mut counts);
     lowest(6, first_not_once(&counts, h.nodes), h.nodes)
 }
 
@@ -146,7 +147,7 @@ fn mark_bodies(procedures: &[u8], count: u16, marks: &mut [u16])
 {
     let mut p: u16 = 0;
     while p < count {
-        let r = records::procedure_at(procedures, p);
+        let r = records::procedure_at(&procedures[..], p);
         mark(marks, r.body, 1);
         p += 1;
     }
@@ -195,7 +196,7 @@ fn hand_down(nodes: &[u8], count: u16, deepens: bool, marks: &mut [u16])
         let own = mark_at(marks, n);
         let plain = child_mark(deepens, own, 0);
         let first = child_mark(deepens, own, 1);
-        hand_on(records::record_at(nodes, n), own, plain, first, marks);
+        hand_on(records::record_at(&nodes[..], n), own, plain, first, marks);
         n += 1;
     }
 }
@@ -214,8 +215,8 @@ fn first_out_of_place(nodes: &[u8], count: u16, body: &[u16], depths: &[u16], ch
 {
     let mut n: u16 = 0;
     while n < count {
-        let r = records::record_at(nodes, n);
-        if !stands(mark_at(body, n), mark_at(depths, n), mark_at(chains, n), r) {
+        let r = records::record_at(&nodes[..], n);
+        if !stands(mark_at(&body[..], n), mark_at(&depths[..], n), mark_at(&chains[..], n), r) {
             return n;
         }
         n += 1;
@@ -235,13 +236,13 @@ fn places_by(
     requires { ⌜ (h .nodes ≤ 4096) × (now body ≡ replicate (h .nodes) 0) × (now depths ≡ replicate (h .nodes) 0) × (now chains ≡ replicate (h .nodes) 0) ⌝ }
     ensures { λ r. ⌜ asVerdict r ≡ placeRefusal (asHeader h) (treeParts (now (procedures .entry)) (now (nodes .entry))) ⌝ }
 {
-    mark_bodies(procedures, h.procedures, body);
-    mark_bodies(procedures, h.procedures, depths);
-    hand_down(nodes, h.nodes, true, depths);
-    hand_down(nodes, h.nodes, false, chains);
+    mark_bodies(&procedures[..], h.procedures, body);
+    mark_bodies(&procedures[..], h.procedures, depths);
+    hand_down(&nodes[..], h.nodes, true, depths);
+    hand_down(&nodes[..], h.nodes, false, chains);
     lowest(
         6,
-        first_out_of_place(nodes, h.nodes, body, depths, chains),
+        first_out_of_place(&nodes[..], h.nodes, body, depths, chains),
         h.nodes,
     )
 }
@@ -257,8 +258,8 @@ fn places(h: Header, procedures: &[u8], nodes: &[u8]) -> Verdict
     let mut chains = [0u16; 4096];
     places_by(
         h,
-        procedures,
-        nodes,
+        &procedures[..],
+        &nodes[..],
         &mut body[..count],
         &mut depths[..count],
         &mut chains[..count],
@@ -270,9 +271,9 @@ pub fn tree(h: Header, procedures: &[u8], nodes: &[u8]) -> Verdict
     requires { ⌜ h .nodes ≤ 4096 ⌝ }
     ensures { λ r. ⌜ asVerdict r ≡ treeRefusal (asHeader h) (treeParts (now (procedures .entry)) (now (nodes .entry))) ⌝ }
 {
-    let v = references(h, procedures, nodes);
+    let v = references(h, &procedures[..], &nodes[..]);
     if v.number != 0 {
         return v;
     }
-    places(h, procedures, nodes)
+    places(h, &procedures[..], &nodes[..])
 }
