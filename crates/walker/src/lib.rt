@@ -1,4 +1,5 @@
 // Verdicts 7 to 13: the walk.
+// Slices are handed on whole, as `&s[..]`: a slice copied as it stands is a pair in memory, and waits there.
 ghost use mathlib.Core.Path.{_≡_};
 ghost use mathlib.Core.List.{List, [], _∷_, _++_};
 ghost use mathlib.Core.Bool.{not, _||_, _&&_};
@@ -76,14 +77,14 @@ fn named(scope: &[u8; 1024], n: u16, x: u16, wrong: bool) -> Verdict
 fn type_of(variables: &[u8], x: u16) -> Variable
     ensures { λ v. ⌜ Typed (now (variables .entry)) x v ⌝ }
 {
-    records::variable_at(variables, x)
+    records::variable_at(&variables[..], x)
 }
 
 // 9: "an element of a non-array". 10: "secret index without unsafe, unsafe on a public array".
 fn element(variables: &[u8], scope: &[u8; 1024], n: u16, free: bool, x: u16, hidden: bool) -> Judged
     ensures { λ r. ⌜ ElementJudged (now (variables .entry)) (now (scope .entry)) n free x hidden r ⌝ }
 {
-    let v = type_of(variables, x);
+    let v = type_of(&variables[..], x);
     let secret = v.secrecy == 1;
     let broken = (hidden & !free) | (free & !secret);
     with_secrecy(first_of(named(scope, n, x, v.kind != 1), given(10, n, broken)), secret)
@@ -93,7 +94,7 @@ fn element(variables: &[u8], scope: &[u8; 1024], n: u16, free: bool, x: u16, hid
 fn variable(variables: &[u8], scope: &[u8; 1024], n: u16, x: u16) -> Judged
     ensures { λ r. ⌜ VariableJudged (now (variables .entry)) (now (scope .entry)) n x r ⌝ }
 {
-    let v = type_of(variables, x);
+    let v = type_of(&variables[..], x);
     with_secrecy(named(scope, n, x, v.kind == 1), (v.kind != 2) & (v.secrecy == 1))
 }
 
@@ -101,7 +102,7 @@ fn variable(variables: &[u8], scope: &[u8; 1024], n: u16, x: u16) -> Judged
 fn size(variables: &[u8], scope: &[u8; 1024], n: u16, x: u16) -> Judged
     ensures { λ r. ⌜ SizeJudged (now (variables .entry)) (now (scope .entry)) n x r ⌝ }
 {
-    let v = type_of(variables, x);
+    let v = type_of(&variables[..], x);
     with_secrecy(named(scope, n, x, v.kind != 1), false)
 }
 
@@ -119,41 +120,41 @@ fn expression(nodes: &[u8], variables: &[u8], scope: &[u8; 1024], n: u16) -> Jud
     ensures { λ r. ⌜ AsExpression (now (nodes .entry)) n
       (λ s e. (Γ : List ℕ) → Scope (now (variables .entry)) (now (scope .entry)) s Γ → Judges s Γ e r) ⌝ }
 {
-    let Decoded::Is(node) = records::node_at(nodes, n) else {
+    let Decoded::Is(node) = records::node_at(&nodes[..], n) else {
         return Judged { number: 5, place: n, secret: false };
     };
     match node {
         Node::Constant { constant } => Judged { number: 0, place: 0, secret: false },
         Node::Value { lvalue } => match lvalue {
-            LValue::Variable { node, variable: x } => variable(variables, scope, node, x),
+            LValue::Variable { node, variable: x } => variable(&variables[..], scope, node, x),
             LValue::Element { node, array, index } => {
-                let i = expression(nodes, variables, scope, index);
+                let i = expression(&nodes[..], &variables[..], scope, index);
                 if i.number != 0 {
                     return i;
                 }
-                element(variables, scope, node, false, array, i.secret)
+                element(&variables[..], scope, node, false, array, i.secret)
             }
             LValue::Unsafe { node, array, index } => {
-                let i = expression(nodes, variables, scope, index);
+                let i = expression(&nodes[..], &variables[..], scope, index);
                 if i.number != 0 {
                     return i;
                 }
-                element(variables, scope, node, true, array, i.secret)
+                element(&variables[..], scope, node, true, array, i.secret)
             }
         },
-        Node::Size { variable } => size(variables, scope, n, variable),
+        Node::Size { variable } => size(&variables[..], scope, n, variable),
         Node::Binary { operator, left, right } => {
-            let a = expression(nodes, variables, scope, left);
+            let a = expression(&nodes[..], &variables[..], scope, left);
             if a.number != 0 {
                 return a;
             }
-            let b = expression(nodes, variables, scope, right);
+            let b = expression(&nodes[..], &variables[..], scope, right);
             if b.number != 0 {
                 return b;
             }
             binary(n, operator, a.secret, b.secret)
         }
-        Node::Not { operand } => expression(nodes, variables, scope, operand),
+        Node::Not { operand } => expression(&nodes[..], &variables[..], scope, operand),
         _ => Judged { number: 5, place: n, secret: false },
     }
 }
@@ -165,11 +166,11 @@ fn element_place(nodes: &[u8], variables: &[u8], scope: &[u8; 1024], n: u16, fre
       (λ s e. (Γ : List ℕ) → Scope (now (variables .entry)) (now (scope .entry)) s Γ → x < most
         → asVerdict r ≡ (exprRefusal slow s Γ e then elementRefusal s Γ n free x e)) ⌝ }
 {
-    let i = expression(nodes, variables, scope, index);
+    let i = expression(&nodes[..], &variables[..], scope, index);
     if i.number != 0 {
         return verdict_of(i);
     }
-    verdict_of(element(variables, scope, n, free, x, i.secret))
+    verdict_of(element(&variables[..], scope, n, free, x, i.secret))
 }
 
 // A target, or an argument, which may be a whole array. 9: "a constant as target of update, swap or argument".
@@ -180,11 +181,11 @@ fn place(nodes: &[u8], variables: &[u8], scope: &[u8; 1024], l: LValue, arrays: 
 {
     match l {
         LValue::Variable { node, variable } => {
-            let v = type_of(variables, variable);
+            let v = type_of(&variables[..], variable);
             named(scope, node, variable, (!arrays & (v.kind == 1)) | (v.kind == 2))
         }
-        LValue::Element { node, array, index } => element_place(nodes, variables, scope, node, false, array, index),
-        LValue::Unsafe { node, array, index } => element_place(nodes, variables, scope, node, true, array, index),
+        LValue::Element { node, array, index } => element_place(&nodes[..], &variables[..], scope, node, false, array, index),
+        LValue::Unsafe { node, array, index } => element_place(&nodes[..], &variables[..], scope, node, true, array, index),
     }
 }
 
@@ -197,22 +198,22 @@ fn arguments(nodes: &[u8], variables: &[u8], scope: &[u8; 1024], n: u16) -> Verd
     if n == 65535 {
         return Verdict { number: 0, place: 0 };
     }
-    let Target::Place(l) = records::lvalue_at(nodes, n) else {
+    let Target::Place(l) = records::lvalue_at(&nodes[..], n) else {
         return Verdict { number: 5, place: n };
     };
-    let a = place(nodes, variables, scope, l, true);
+    let a = place(&nodes[..], &variables[..], scope, l, true);
     if a.number != 0 {
         return a;
     }
-    arguments(nodes, variables, scope, records::next_at(nodes, n))
+    arguments(&nodes[..], &variables[..], scope, records::next_at(&nodes[..], n))
 }
 
 // 12: "secrecy, size, or scalar against array differs", of an argument and parameter y.
 fn argument_fits(variables: &[u8], l: LValue, y: u16) -> bool
     ensures { λ r. ⌜ ArgumentFits (now (variables .entry)) l y r ⌝ }
 {
-    let v = type_of(variables, names::root_of(l));
-    let w = type_of(variables, y);
+    let v = type_of(&variables[..], names::root_of(l));
+    let w = type_of(&variables[..], y);
     let whole = names::is_whole(l);
     let same_type = (v.secrecy == w.secrecy) & (v.size == w.size);
     same_type & ((whole & (v.kind == 1)) == (w.kind == 1))
@@ -230,13 +231,13 @@ fn arguments_fit(nodes: &[u8], variables: &[u8], n: u16, y: u16, end: u16) -> bo
     if y == end {
         return false;
     }
-    let Target::Place(l) = records::lvalue_at(nodes, n) else {
+    let Target::Place(l) = records::lvalue_at(&nodes[..], n) else {
         return false;
     };
-    if !argument_fits(variables, l, y) {
+    if !argument_fits(&variables[..], l, y) {
         return false;
     }
-    arguments_fit(nodes, variables, records::next_at(nodes, n), y + 1, end)
+    arguments_fit(&nodes[..], &variables[..], records::next_at(&nodes[..], n), y + 1, end)
 }
 
 // 10: "secret value into a public target". 11: "the root of an update's target occurs in its value or its own index".
@@ -244,17 +245,17 @@ fn update(nodes: &[u8], variables: &[u8], scope: &[u8; 1024], n: u16, target: LV
     requires { ⌜ UpdateAt (now nodes) n target value ⌝ }
     ensures { λ r. ⌜ AsStatement (now (nodes .entry)) n (λ s t. Plain (now (variables .entry)) (now (scope .entry)) s t r) ⌝ }
 {
-    let t = place(nodes, variables, scope, target, false);
+    let t = place(&nodes[..], &variables[..], scope, target, false);
     if t.number != 0 {
         return t;
     }
-    let e = expression(nodes, variables, scope, value);
+    let e = expression(&nodes[..], &variables[..], scope, value);
     if e.number != 0 {
         return verdict_of(e);
     }
     let x = names::root_of(target);
-    let v = type_of(variables, x);
-    let clash = names::occurs(nodes, value, x) | names::index_occurs(nodes, target, x);
+    let v = type_of(&variables[..], x);
+    let clash = names::occurs(&nodes[..], value, x) | names::index_occurs(&nodes[..], target, x);
     first_of(given(10, n, e.secret & !(v.secrecy == 1)), given(11, n, clash))
 }
 
@@ -263,15 +264,15 @@ fn either_in_index(nodes: &[u8], l: LValue, x: u16, y: u16) -> bool
     requires { ⌜ KnownNaming (now nodes) l ⌝ }
     ensures { λ r. ⌜ AsPlace (now (nodes .entry)) l (λ s p. r ≡ share (x ∷ y ∷ []) (index p)) ⌝ }
 {
-    names::index_occurs(nodes, l, x) | names::index_occurs(nodes, l, y)
+    names::index_occurs(&nodes[..], l, x) | names::index_occurs(&nodes[..], l, y)
 }
 
 // 12: "Swap targets of different types are 12 too."
 fn same_type(variables: &[u8], x: u16, y: u16) -> bool
     ensures { λ r. ⌜ SameType (now (variables .entry)) x y r ⌝ }
 {
-    let v = type_of(variables, x);
-    let w = type_of(variables, y);
+    let v = type_of(&variables[..], x);
+    let w = type_of(&variables[..], y);
     (v.secrecy == w.secrecy) & (v.size == w.size)
 }
 
@@ -280,18 +281,18 @@ fn swap(nodes: &[u8], variables: &[u8], scope: &[u8; 1024], n: u16, left: LValue
     requires { ⌜ SwapAt (now nodes) n left right ⌝ }
     ensures { λ r. ⌜ AsStatement (now (nodes .entry)) n (λ s t. Plain (now (variables .entry)) (now (scope .entry)) s t r) ⌝ }
 {
-    let a = place(nodes, variables, scope, left, false);
+    let a = place(&nodes[..], &variables[..], scope, left, false);
     if a.number != 0 {
         return a;
     }
-    let b = place(nodes, variables, scope, right, false);
+    let b = place(&nodes[..], &variables[..], scope, right, false);
     if b.number != 0 {
         return b;
     }
     let x = names::root_of(left);
     let y = names::root_of(right);
-    let clash = either_in_index(nodes, left, x, y) | either_in_index(nodes, right, x, y);
-    first_of(given(11, n, clash), given(12, n, !same_type(variables, x, y)))
+    let clash = either_in_index(&nodes[..], left, x, y) | either_in_index(&nodes[..], right, x, y);
+    first_of(given(11, n, clash), given(12, n, !same_type(&variables[..], x, y)))
 }
 
 // 10: "secret swap condition with a public target". 11: "or in the condition".
@@ -299,26 +300,26 @@ fn conditional_swap(nodes: &[u8], variables: &[u8], scope: &[u8; 1024], n: u16, 
     requires { ⌜ ConditionalAt (now nodes) n condition left right ⌝ }
     ensures { λ r. ⌜ AsStatement (now (nodes .entry)) n (λ s t. Plain (now (variables .entry)) (now (scope .entry)) s t r) ⌝ }
 {
-    let e = expression(nodes, variables, scope, condition);
+    let e = expression(&nodes[..], &variables[..], scope, condition);
     if e.number != 0 {
         return verdict_of(e);
     }
-    let a = place(nodes, variables, scope, left, false);
+    let a = place(&nodes[..], &variables[..], scope, left, false);
     if a.number != 0 {
         return a;
     }
-    let b = place(nodes, variables, scope, right, false);
+    let b = place(&nodes[..], &variables[..], scope, right, false);
     if b.number != 0 {
         return b;
     }
     let x = names::root_of(left);
     let y = names::root_of(right);
-    let v = type_of(variables, x);
-    let w = type_of(variables, y);
-    let indices = either_in_index(nodes, left, x, y) | either_in_index(nodes, right, x, y);
-    let condition_clash = names::occurs(nodes, condition, x) | names::occurs(nodes, condition, y);
+    let v = type_of(&variables[..], x);
+    let w = type_of(&variables[..], y);
+    let indices = either_in_index(&nodes[..], left, x, y) | either_in_index(&nodes[..], right, x, y);
+    let condition_clash = names::occurs(&nodes[..], condition, x) | names::occurs(&nodes[..], condition, y);
     let public = !((v.secrecy == 1) & (w.secrecy == 1));
-    let later = first_of(given(11, n, indices | condition_clash), given(12, n, !same_type(variables, x, y)));
+    let later = first_of(given(11, n, indices | condition_clash), given(12, n, !same_type(&variables[..], x, y)));
     first_of(given(10, n, e.secret & public), later)
 }
 
@@ -326,7 +327,7 @@ fn conditional_swap(nodes: &[u8], variables: &[u8], scope: &[u8; 1024], n: u16, 
 fn shares_of(procedures: &[u8], p: u16) -> Procedure
     ensures { λ r. ⌜ Shares (now (procedures .entry)) p r ⌝ }
 {
-    records::procedure_at(procedures, p)
+    records::procedure_at(&procedures[..], p)
 }
 
 // 12: "the called procedure's number is not smaller than the caller's; argument count differs; secrecy, size, ..".
@@ -335,9 +336,9 @@ fn call_fits(nodes: &[u8], variables: &[u8], procedures: &[u8], p: u16, q: u16, 
     ensures { λ r. ⌜ AsArguments (now (nodes .entry)) argument
       (λ s ls. s .variables ≡ now (variables .entry) → s .procedures ≡ now (procedures .entry) → r ≡ callFits s p q ls) ⌝ }
 {
-    let r = shares_of(procedures, q);
+    let r = shares_of(&procedures[..], q);
     let end = r.first + r.parameters;
-    (q < p) & arguments_fit(nodes, variables, argument, r.first, end)
+    (q < p) & arguments_fit(&nodes[..], &variables[..], argument, r.first, end)
 }
 
 // A call or an uncall.
@@ -346,12 +347,12 @@ fn call(nodes: &[u8], variables: &[u8], procedures: &[u8], scope: &[u8; 1024], p
     ensures { λ r. ⌜ AsStatement (now (nodes .entry)) n
       (λ s t. Called (now (variables .entry)) (now (scope .entry)) (now (procedures .entry)) p s t r) ⌝ }
 {
-    let a = arguments(nodes, variables, scope, argument);
+    let a = arguments(&nodes[..], &variables[..], scope, argument);
     if a.number != 0 {
         return a;
     }
-    let clash = names::arguments_clash(nodes, argument);
-    let fits = call_fits(nodes, variables, procedures, p, q, argument);
+    let clash = names::arguments_clash(&nodes[..], argument);
+    let fits = call_fits(&nodes[..], &variables[..], &procedures[..], p, q, argument);
     first_of(given(11, n, clash), given(12, n, !fits))
 }
 
@@ -387,7 +388,7 @@ fn no_counters(variables: &[u8], x: u16, count: u16) -> bool
 {
     let mut i: u16 = 0;
     while i < count {
-        let v = type_of(variables, x + i);
+        let v = type_of(&variables[..], x + i);
         if v.kind == 3 {
             return false;
         }
@@ -402,8 +403,8 @@ fn if_rules(nodes: &[u8], n: u16, secret: bool, condition: u16, yes: u16, no: u1
     ensures { λ r. ⌜ IfRules (now (nodes .entry)) n secret condition yes no r ⌝ }
 {
     let mut used = names::fresh();
-    names::mark_variables(nodes, condition, &mut used);
-    let clash = names::changes(nodes, yes, &used) | names::changes(nodes, no, &used);
+    names::mark_variables(&nodes[..], condition, &mut used);
+    let clash = names::changes(&nodes[..], yes, &used) | names::changes(&nodes[..], no, &used);
     first_of(given(10, n, secret), given(11, n, clash))
 }
 
@@ -413,17 +414,17 @@ fn for_rules(nodes: &[u8], n: u16, secret: bool, first: u16, second: u16, body: 
     ensures { λ r. ⌜ ForRules (now (nodes .entry)) n secret first second body r ⌝ }
 {
     let mut used = names::fresh();
-    names::mark_variables(nodes, first, &mut used);
-    names::mark_variables(nodes, second, &mut used);
-    first_of(given(10, n, secret), given(11, n, names::changes(nodes, body, &used)))
+    names::mark_variables(&nodes[..], first, &mut used);
+    names::mark_variables(&nodes[..], second, &mut used);
+    first_of(given(10, n, secret), given(11, n, names::changes(&nodes[..], body, &used)))
 }
 
 // 7 and 9 of a for's counter.
 fn counter_rules(variables: &[u8], procedures: &[u8], taken: &[u8; 1024], p: u16, n: u16, x: u16) -> Verdict
     ensures { λ r. ⌜ CounterRules (now (variables .entry)) (now (procedures .entry)) (now (taken .entry)) p n x r ⌝ }
 {
-    let q = shares_of(procedures, p);
-    let v = type_of(variables, x);
+    let q = shares_of(&procedures[..], p);
+    let v = type_of(&variables[..], x);
     let free = can_declare(q, taken, x);
     first_of(given(7, n, !free), given(9, n, !(v.kind == 3)))
 }
@@ -433,9 +434,9 @@ fn block_rules(variables: &[u8], procedures: &[u8], taken: &[u8; 1024], p: u16, 
     requires { ⌜ x + count ≤ most ⌝ }
     ensures { λ r. ⌜ BlockRules (now (variables .entry)) (now (procedures .entry)) (now (taken .entry)) p n x count r ⌝ }
 {
-    let q = shares_of(procedures, p);
+    let q = shares_of(&procedures[..], p);
     let free = can_declare_all(q, taken, x, count);
-    let plain = no_counters(variables, x, count);
+    let plain = no_counters(&variables[..], x, count);
     first_of(given(7, n, !free), given(9, n, !plain))
 }
 
@@ -445,19 +446,19 @@ pub fn statement(nodes: &[u8], variables: &[u8], procedures: &[u8], scope: &[u8;
     ensures { λ r. ⌜ AsStatement (now (nodes .entry)) n
       (λ s t. Walked (now (variables .entry)) (now (scope .entry)) (now (procedures .entry)) (now (taken .entry)) (now (taken .exit)) p s t r) ⌝ }
 {
-    let Decoded::Is(node) = records::node_at(nodes, n) else {
+    let Decoded::Is(node) = records::node_at(&nodes[..], n) else {
         return Verdict { number: 5, place: n };
     };
     match node {
         Node::Empty => Verdict { number: 0, place: 0 },
-        Node::Update { operator, target, value } => update(nodes, variables, scope, n, target, value),
-        Node::Swap { left, right } => swap(nodes, variables, scope, n, left, right),
-        Node::ConditionalSwap { condition, left, right } => conditional_swap(nodes, variables, scope, n, condition, left, right),
-        Node::If { condition, yes, no } => if_statement(nodes, variables, procedures, scope, taken, p, n, condition, yes, no),
-        Node::For { counter, first, second, body } => for_statement(nodes, variables, procedures, scope, taken, p, n, counter, first, second, body),
-        Node::Call { procedure, argument } => call(nodes, variables, procedures, scope, p, n, procedure, argument),
-        Node::Uncall { procedure, argument } => call(nodes, variables, procedures, scope, p, n, procedure, argument),
-        Node::Block { first, count, statement } => block(nodes, variables, procedures, scope, taken, p, n, first, count, statement),
+        Node::Update { operator, target, value } => update(&nodes[..], &variables[..], scope, n, target, value),
+        Node::Swap { left, right } => swap(&nodes[..], &variables[..], scope, n, left, right),
+        Node::ConditionalSwap { condition, left, right } => conditional_swap(&nodes[..], &variables[..], scope, n, condition, left, right),
+        Node::If { condition, yes, no } => if_statement(&nodes[..], &variables[..], &procedures[..], scope, taken, p, n, condition, yes, no),
+        Node::For { counter, first, second, body } => for_statement(&nodes[..], &variables[..], &procedures[..], scope, taken, p, n, counter, first, second, body),
+        Node::Call { procedure, argument } => call(&nodes[..], &variables[..], &procedures[..], scope, p, n, procedure, argument),
+        Node::Uncall { procedure, argument } => call(&nodes[..], &variables[..], &procedures[..], scope, p, n, procedure, argument),
+        Node::Block { first, count, statement } => block(&nodes[..], &variables[..], &procedures[..], scope, taken, p, n, first, count, statement),
         _ => Verdict { number: 5, place: n },
     }
 }
@@ -468,19 +469,19 @@ fn if_statement(nodes: &[u8], variables: &[u8], procedures: &[u8], scope: &[u8; 
     ensures { λ r. ⌜ AsStatement (now (nodes .entry)) n
       (λ s t. Walked (now (variables .entry)) (now (scope .entry)) (now (procedures .entry)) (now (taken .entry)) (now (taken .exit)) p s t r) ⌝ }
 {
-    let e = expression(nodes, variables, scope, condition);
+    let e = expression(&nodes[..], &variables[..], scope, condition);
     if e.number != 0 {
         return verdict_of(e);
     }
-    let a = statement(nodes, variables, procedures, scope, taken, p, yes);
+    let a = statement(&nodes[..], &variables[..], &procedures[..], scope, taken, p, yes);
     if a.number != 0 {
         return a;
     }
-    let b = statement(nodes, variables, procedures, scope, taken, p, no);
+    let b = statement(&nodes[..], &variables[..], &procedures[..], scope, taken, p, no);
     if b.number != 0 {
         return b;
     }
-    if_rules(nodes, n, e.secret, condition, yes, no)
+    if_rules(&nodes[..], n, e.secret, condition, yes, no)
 }
 
 // The for at node n: its bounds, its counter, its body, its own rules.
@@ -489,26 +490,26 @@ fn for_statement(nodes: &[u8], variables: &[u8], procedures: &[u8], scope: &[u8;
     ensures { λ r. ⌜ AsStatement (now (nodes .entry)) n
       (λ s t. Walked (now (variables .entry)) (now (scope .entry)) (now (procedures .entry)) (now (taken .entry)) (now (taken .exit)) p s t r) ⌝ }
 {
-    let a = expression(nodes, variables, scope, first);
+    let a = expression(&nodes[..], &variables[..], scope, first);
     if a.number != 0 {
         return verdict_of(a);
     }
-    let b = expression(nodes, variables, scope, second);
+    let b = expression(&nodes[..], &variables[..], scope, second);
     if b.number != 0 {
         return verdict_of(b);
     }
-    let v = counter_rules(variables, procedures, taken, p, n, counter);
+    let v = counter_rules(&variables[..], &procedures[..], taken, p, n, counter);
     if v.number != 0 {
         return v;
     }
     let mut inner = *scope;
     names::mark(&mut inner, counter);
     names::mark(taken, counter);
-    let t = statement(nodes, variables, procedures, &inner, taken, p, body);
+    let t = statement(&nodes[..], &variables[..], &procedures[..], &inner, taken, p, body);
     if t.number != 0 {
         return t;
     }
-    for_rules(nodes, n, a.secret | b.secret, first, second, body)
+    for_rules(&nodes[..], n, a.secret | b.secret, first, second, body)
 }
 
 // The block at node n: its names, then its statements.
@@ -517,14 +518,14 @@ fn block(nodes: &[u8], variables: &[u8], procedures: &[u8], scope: &[u8; 1024], 
     ensures { λ r. ⌜ AsStatement (now (nodes .entry)) n
       (λ s t. Walked (now (variables .entry)) (now (scope .entry)) (now (procedures .entry)) (now (taken .entry)) (now (taken .exit)) p s t r) ⌝ }
 {
-    let v = block_rules(variables, procedures, taken, p, n, first, count);
+    let v = block_rules(&variables[..], &procedures[..], taken, p, n, first, count);
     if v.number != 0 {
         return v;
     }
     let mut inner = *scope;
     names::mark_range(&mut inner, first, count);
     names::mark_range(taken, first, count);
-    list(nodes, variables, procedures, &inner, taken, p, start)
+    list(&nodes[..], &variables[..], &procedures[..], &inner, taken, p, start)
 }
 
 // The statements from node n on.
@@ -536,9 +537,9 @@ fn list(nodes: &[u8], variables: &[u8], procedures: &[u8], scope: &[u8; 1024], t
     if n == 65535 {
         return Verdict { number: 0, place: 0 };
     }
-    let a = statement(nodes, variables, procedures, scope, taken, p, n);
+    let a = statement(&nodes[..], &variables[..], &procedures[..], scope, taken, p, n);
     if a.number != 0 {
         return a;
     }
-    list(nodes, variables, procedures, scope, taken, p, records::next_at(nodes, n))
+    list(&nodes[..], &variables[..], &procedures[..], scope, taken, p, records::next_at(&nodes[..], n))
 }
