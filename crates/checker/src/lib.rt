@@ -1,4 +1,5 @@
 // The check of an image: verdicts 1 to 6, then the walk of its procedures, 7 to 13.
+// Slices are handed on whole, as `&s[..]`: a slice copied as it stands is a pair in memory, and waits there.
 ghost use mathlib.Core.Path.{_≡_};
 ghost use Prim.Native.Nat.{_+_, _-_, _≤_, _<_};
 ghost use Rattle.rules.specs.Form.{search};
@@ -46,7 +47,7 @@ fn body_of(nodes: &[u8], variables: &[u8], procedures: &[u8], count: u16, p: u16
     let mut scope = names::fresh();
     names::mark_range(&mut scope, q.first, q.parameters);
     let mut taken = names::fresh();
-    let walked = walker::statement(nodes, variables, procedures, &scope, &mut taken, p, q.body);
+    let walked = walker::statement(&nodes[..], &variables[..], &procedures[..], &scope, &mut taken, p, q.body);
     if walked.number != 0 {
         return walked;
     }
@@ -58,7 +59,7 @@ fn body(nodes: &[u8], variables: &[u8], procedures: &[u8], count: u16, p: u16) -
     requires { ⌜ (Ready (now nodes) (now variables) (now procedures) count) × (p < count) ⌝ }
     ensures { λ r. ⌜ OfImage (now (nodes .entry)) (now (variables .entry)) (now (procedures .entry)) count (λ h s. asVerdict r ≡ bodyRefusal slow s p (bodyOf h s p)) ⌝ }
 {
-    body_of(nodes, variables, procedures, count, p, records::procedure_at(procedures, p))
+    body_of(&nodes[..], &variables[..], &procedures[..], count, p, records::procedure_at(&procedures[..], p))
 }
 
 // The walk of all procedures, in order.
@@ -68,7 +69,7 @@ fn walk(nodes: &[u8], variables: &[u8], procedures: &[u8], count: u16) -> Verdic
 {
     let mut p: u16 = 0;
     while p < count {
-        let v = body(nodes, variables, procedures, count, p);
+        let v = body(&nodes[..], &variables[..], &procedures[..], count, p);
         if v.number != 0 {
             return v;
         }
@@ -93,9 +94,9 @@ fn walked(image: &[u8], h: Header) -> Verdict
 pub fn check(image: &[u8]) -> Verdict
     ensures { λ r. ⌜ asVerdict r ≡ verdict (now (image .entry)) ⌝ }
 {
-    let form = form::form(image);
+    let form = form::form(&image[..]);
     if form.number != 0 {
         return form;
     }
-    walked(image, records::header_of(image))
+    walked(&image[..], records::header_of(&image[..]))
 }
