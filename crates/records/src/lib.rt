@@ -59,6 +59,34 @@ pub fn u64_at(s: &[u8], at: usize) -> u64
     low + high * 4294967296
 }
 
+// The number of two bytes that stand inside, the low one first.
+fn u16_inside(s: &[u8], at: usize) -> u16
+    requires { ⌜ at + 1 < length (now s) ⌝ }
+    ensures { λ r. ⌜ r ≡ le16 (now (s .entry)) at ⌝ }
+{
+    wide(s[at]) + wide(s[at + 1]) * 256
+}
+
+// The number of four bytes that stand inside, the low half first.
+fn u32_inside(s: &[u8], at: usize) -> u32
+    requires { ⌜ at + 3 < length (now s) ⌝ }
+    ensures { λ r. ⌜ r ≡ le32 (now (s .entry)) at ⌝ }
+{
+    let low = u16_inside(&s[..], at) as u32;
+    let high = u16_inside(&s[..], at + 2) as u32;
+    low + high * 65536
+}
+
+// The number of eight bytes that stand inside, the low half first.
+fn u64_inside(s: &[u8], at: usize) -> u64
+    requires { ⌜ at + 7 < length (now s) ⌝ }
+    ensures { λ r. ⌜ r ≡ le64 (now (s .entry)) at ⌝ }
+{
+    let low = u32_inside(&s[..], at) as u64;
+    let high = u32_inside(&s[..], at + 4) as u64;
+    low + high * 4294967296
+}
+
 pub struct Header {
     pub format: u16,
     pub procedures: u16,
@@ -136,7 +164,11 @@ pub fn variable_at(part: &[u8], x: u16) -> Variable
 pub fn constant_at(part: &[u8], k: u16) -> u64
     ensures { λ r. ⌜ r ≡ constantOf (now (part .entry)) k ⌝ }
 {
-    u64_at(part, k as usize * 8)
+    let at = k as usize * 8;
+    if at + 7 < part.len() {
+        return u64_inside(&part[..], at);
+    }
+    u64_at(&part[..], at)
 }
 
 // A node's record, field by field.
@@ -148,14 +180,6 @@ pub struct RawNode {
     pub c: u16,
     pub d: u16,
     pub next: u16,
-}
-
-// The number of two bytes that stand inside, the low one first.
-fn u16_inside(s: &[u8], at: usize) -> u16
-    requires { ⌜ at + 1 < length (now s) ⌝ }
-    ensures { λ r. ⌜ r ≡ le16 (now (s .entry)) at ⌝ }
-{
-    wide(s[at]) + wide(s[at + 1]) * 256
 }
 
 // The record of a node that stands inside the nodes' part.
