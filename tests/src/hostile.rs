@@ -1,4 +1,5 @@
-//! Accepted images that give a checker as much to do as document 01's limits allow, and a long loop for a runner.
+//! Images that give a checker as much to do as document 01's limits allow, and a long loop, a long list and the deepest nesting for a
+//! runner. All but one are accepted.
 
 use crate::image::Operator::Or;
 use crate::image::*;
@@ -22,7 +23,7 @@ pub fn images() -> Vec<(&'static str, Vec<u8>)> {
         ("29 nested fors, 2,000 changes", nested_fors()),
         ("update with 2,046 mentions", long_update()),
         ("124 calls of 16 elements", many_calls()),
-        ("4,095 statements in a block", single(&[], &[], list(vec![Stmt::Empty; MOST_NODES - 1])).bytes()),
+        ("4,095 statements in a block", long_list()),
     ]
 }
 
@@ -30,6 +31,27 @@ pub fn images() -> Vec<(&'static str, Vec<u8>)> {
 pub fn long_loop(turns: u64) -> Vec<u8> {
     let body = list(vec![add(var(0), var(1)), add(var(1), 1)]);
     single(&[public(64)], &[Variable::Counter], for_loop(1, 0, turns, body)).bytes()
+}
+
+/// As many statements in a row as fit: forward and inverse, a list is as long as it can be.
+pub fn long_list() -> Vec<u8> {
+    single(&[], &[], list(vec![Stmt::Empty; MOST_NODES - 1])).bytes()
+}
+
+/// A call with as many arguments as fit. It is refused with 11, since it lends one variable more than once.
+pub fn long_call() -> Vec<u8> {
+    let caller = procedure(&[public(64)], &[], call(0, vec![var(0); MOST_NODES - 2]));
+    assemble(&[procedure(&[], &[], Stmt::Empty), caller]).bytes()
+}
+
+/// Every procedure calls the one before it as deep inside as it may: 32 levels in each of 32 procedures.
+pub fn deepest_run() -> Vec<u8> {
+    let deep = |inner: Stmt| (1..DEEPEST).fold(inner, |body, _| list(vec![body]));
+    let mut procedures = vec![procedure(&[], &[], deep(Stmt::Empty))];
+    for below in 0..MOST_PROCEDURES as u16 - 1 {
+        procedures.push(procedure(&[], &[], deep(call(below, vec![]))));
+    }
+    assemble(&procedures).bytes()
 }
 
 /// The names or-ed together, in a tree as low as can be.
@@ -129,6 +151,15 @@ mod tests {
     #[test]
     fn the_largest_is_as_large_as_can_be() {
         assert_eq!(largest().len(), 59_668);
+    }
+
+    #[test]
+    fn the_deepest_run_takes_every_level() {
+        let image = deepest_run();
+        assert_eq!(check(&image), (0, 0));
+        let answer = run(&image, true, &[], &mut [], &mut [0; WORK_WORDS], 2_000, &mut []);
+        assert_eq!((answer.number, answer.steps), (0, u64::from(DEEPEST) * MOST_PROCEDURES as u64));
+        assert_eq!(check(&long_call()).0, 11);
     }
 
     #[test]
