@@ -36,6 +36,13 @@ fn refused(number: u16, n: u16, run: Run) -> Run
     Run { number: number, place: n, left: run.left, entries: run.entries }
 }
 
+// The run as it is, field by field: a result that is copied whole waits in memory for the writes of its fields.
+fn kept(run: Run) -> Run
+    ensures { λ r. ⌜ r ≡ run ⌝ }
+{
+    Run { number: run.number, place: run.place, left: run.left, entries: run.entries }
+}
+
 // An if: the branch that its condition chooses.
 fn decided(nodes: &[u8], variables: &[u8], constants: &[u8], cells: &[u64], slots: &[u16], trace: &mut [u32], condition: u16, chosen: u16, otherwise: u16, run: Run) -> Rest
     requires { ⌜ Readable isExpression (now nodes) condition ⌝ }
@@ -135,19 +142,19 @@ pub fn statement(nodes: &[u8], procedures: &[u8], variables: &[u8], constants: &
 {
     let rest = begun(&nodes[..], &variables[..], &constants[..], cells, slots, trace, inverse, n, run);
     match rest {
-        Rest::Finished(done) => done,
-        Rest::Branch(m, on) => statement(&nodes[..], &procedures[..], &variables[..], &constants[..], cells, slots, trace, inverse, p, m, on),
-        Rest::Turns(it, on) => turns(&nodes[..], &procedures[..], &variables[..], &constants[..], cells, slots, trace, inverse, p, it, on),
+        Rest::Finished(done) => kept(done),
+        Rest::Branch(m, on) => kept(statement(&nodes[..], &procedures[..], &variables[..], &constants[..], cells, slots, trace, inverse, p, m, on)),
+        Rest::Turns(it, on) => kept(turns(&nodes[..], &procedures[..], &variables[..], &constants[..], cells, slots, trace, inverse, p, it, on)),
         Rest::Call { inverse: turned, procedure, argument, run: on } => {
-            called(&nodes[..], &procedures[..], &variables[..], &constants[..], cells, slots, trace, turned, p, procedure, argument, on)
+            kept(called(&nodes[..], &procedures[..], &variables[..], &constants[..], cells, slots, trace, turned, p, procedure, argument, on))
         }
         Rest::Block { first, count, statement: m, run: on } => {
             let done = statements(&nodes[..], &procedures[..], &variables[..], &constants[..], cells, slots, trace, inverse, p, m, on);
             let refusal = done.number;
             if refusal != 0 {
-                return done;
+                return kept(done);
             }
-            expressions::block_end(cells, slots, first, count, n, done)
+            kept(expressions::block_end(cells, slots, first, count, n, done))
         }
     }
 }
@@ -166,16 +173,16 @@ fn statements(nodes: &[u8], procedures: &[u8], variables: &[u8], constants: &[u8
         let later = statements(&nodes[..], &procedures[..], &variables[..], &constants[..], cells, slots, trace, inverse, p, next, run);
         let refusal = later.number;
         if refusal != 0 {
-            return later;
+            return kept(later);
         }
-        return statement(&nodes[..], &procedures[..], &variables[..], &constants[..], cells, slots, trace, inverse, p, n, later);
+        return kept(statement(&nodes[..], &procedures[..], &variables[..], &constants[..], cells, slots, trace, inverse, p, n, later));
     }
     let one = statement(&nodes[..], &procedures[..], &variables[..], &constants[..], cells, slots, trace, inverse, p, n, run);
     let trouble = one.number;
     if trouble != 0 {
-        return one;
+        return kept(one);
     }
-    statements(&nodes[..], &procedures[..], &variables[..], &constants[..], cells, slots, trace, inverse, p, next, one)
+    kept(statements(&nodes[..], &procedures[..], &variables[..], &constants[..], cells, slots, trace, inverse, p, next, one))
 }
 
 // The turns of a for whose bounds are known: while the counter differs from the second. There are never more than steps left.

@@ -3,38 +3,14 @@
 use mathlib.Core.Path.{refl, sym, ap, _∙_}
 use native.Mathlib.Omega.{arith}
 use borrow.Author.Needs.{needs}
-use lib.ListN.{length, length-set}
 use Rattle.rules.specs.Image.{procedureOf}
 use Rattle.expressions.specs.Relations.{directionOf}
-use Rattle.executors.specs.World.{World}
 use Rattle.executors.specs.Doing.{finished, led, ran-same}
-use Rattle.executors.specs.Ways.{stmtAt, running, statementRank, statementsRank, turnsRank, calledRank}
+use Rattle.executors.specs.Ways.{statementRank, statementsRank, turnsRank, calledRank}
 use Rattle.executors.specs.Nodes.{next-behind, next-chain}
 use Rattle.executors.specs.Lists.{both-refused, both-on, none, fine-first, fine-rest, list-forward, list-inverse, end-ran}
 use Rattle.executors.specs.Loop.{Keeps, turned-starts, turned-on, loop-stops, loop-ends, no-turn, turn-refused, body-refused, met-first}
 use Rattle.executors.specs.Calls.{rows-below, call-refused, call-on}
-use borrow.Author.Needs.{needs}
-use lib.ListN.{length, length-set}
-use Rattle.rules.specs.Image.{procedureOf}
-use Rattle.expressions.specs.Relations.{directionOf}
-use Rattle.executors.specs.World.{World}
-use Rattle.executors.specs.Doing.{finished, led, ran-same}
-use Rattle.executors.specs.Ways.{stmtAt, running, statementRank, statementsRank, turnsRank, calledRank}
-use Rattle.executors.specs.Nodes.{next-behind, next-chain}
-use Rattle.executors.specs.Lists.{both-refused, both-on, none, fine-first, fine-rest, list-forward, list-inverse, end-ran}
-use Rattle.executors.specs.Loop.{Keeps, turned-starts, turned-on, loop-stops, loop-ends, no-turn, turn-refused, body-refused, met-first}
-use Rattle.executors.specs.Calls.{rows-below, call-refused, call-on}
-use borrow.Author.Needs.{needs}
-use lib.ListN.{length, length-set}
-use Rattle.rules.specs.Image.{procedureOf}
-use Rattle.expressions.specs.Relations.{directionOf}
-use Rattle.executors.specs.World.{World}
-use Rattle.executors.specs.Doing.{finished, led, ran-same}
-use Rattle.executors.specs.Ways.{stmtAt, running, statementRank, statementsRank, turnsRank, calledRank}
-use Rattle.executors.specs.Nodes.{next-behind, next-chain}
-use Rattle.executors.specs.Lists.{both-refused, both-on, none, fine-first, fine-rest, list-forward, list-inverse, end-ran}
-use Rattle.executors.specs.Loop.{Keeps, turned-starts, turned-on, loop-stops, loop-ends, no-turn, turn-refused, body-refused, met-first}
-use Rattle.executors.specs.Calls.{call-refused, call-on}
 use Prim.Native.Nat.{ℕ, _<_}
 use borrow.Fn.Kinds.{In}
 use borrow.Fn.PlainCycle.{Measures, is, falls, and}
@@ -50,6 +26,9 @@ use Rattle.executors.proofs.+called+statement+statements+turns.Lts-stat
 use Rattle.executors.proofs.turns.Reads as turns
 use Rattle.executors.proofs.turns.Kinds as turns-kinds
 use Rattle.executors.proofs.+called+statement+statements+turns.Lts-turns as turns-lts
+use Rattle.executors.proofs.begun.Reads as begun-reads
+use Rattle.executors.proofs.kept.Reads as kept-reads
+use Rattle.executors.proofs.refused.Reads as refused-reads
 use Rattle.expressions.proofs.arguments.Reads as arguments-reads
 use Rattle.expressions.proofs.block_end.Reads as block-end-reads
 use Rattle.expressions.proofs.cell.Reads as cell-reads
@@ -57,8 +36,6 @@ use Rattle.expressions.proofs.put.Reads as put-reads
 use Rattle.expressions.proofs.step.Reads as step-reads
 use Rattle.records.proofs.next_at.Reads as next-at-reads
 use Rattle.records.proofs.procedure_at.Reads as procedure-at-reads
-use Rattle.executors.proofs.begun.Reads as begun-reads
-use Rattle.executors.proofs.refused.Reads as refused-reads
 use Rattle.executors.proofs.+called+statement+statements+turns.{statement}
 use Rattle.executors.proofs.+called+statement+statements+turns.Tie.{close}
 
@@ -101,7 +78,7 @@ turns-at t = and 7 turns-kinds.ps (is 7 turns-kinds.ps μ-turns t) turns.Pre
 abbrev turns-below : ℕ → In 7 turns-kinds.ps
 turns-below t = and 7 turns-kinds.ps (falls 7 turns-kinds.ps _<_ μ-turns t) turns.Pre
 
--- src/lib.rt:222:9
+-- src/lib.rt:229:9
 called-refused-requires : (t : ℕ) → called-lts.Need-refused-requires (
   refused-reads.Asked,
   refused-reads.Learnt,
@@ -114,7 +91,7 @@ called-refused-requires : (t : ℕ) → called-lts.Need-refused-requires (
 ) (called-at t) called.Post
 called-refused-requires t c κs = search needs
 
--- src/lib.rt:222:9
+-- src/lib.rt:229:9
 called-returns : (t : ℕ) → called-lts.Need-returns (
   refused-reads.Asked,
   refused-reads.Learnt,
@@ -127,7 +104,7 @@ called-returns : (t : ℕ) → called-lts.Need-returns (
 ) (called-at t) called.Post
 called-returns t c = λ w ρ st fine. absurd (omega (arith, fine .smaller, c .before .if1 .taken))
 
--- src/lib.rt:224:9
+-- src/lib.rt:231:9
 called-procedure-at-requires : (t : ℕ) → called-lts.Need-procedure-at-requires (
   refused-reads.Asked,
   refused-reads.Learnt,
@@ -140,7 +117,7 @@ called-procedure-at-requires : (t : ℕ) → called-lts.Need-procedure-at-requir
 ) (called-at t) called.Post
 called-procedure-at-requires t c κs = search needs
 
--- src/lib.rt:225:17
+-- src/lib.rt:232:17
 called-cast-first : (t : ℕ) → called-lts.Need-cast-first (
   refused-reads.Asked,
   refused-reads.Learnt,
@@ -153,7 +130,7 @@ called-cast-first : (t : ℕ) → called-lts.Need-cast-first (
 ) (called-at t) called.Post
 called-cast-first t c = search needs
 
--- src/lib.rt:226:9
+-- src/lib.rt:233:9
 called-arguments-requires : (t : ℕ) → called-lts.Need-arguments-requires (
   refused-reads.Asked,
   refused-reads.Learnt,
@@ -167,7 +144,7 @@ called-arguments-requires : (t : ℕ) → called-lts.Need-arguments-requires (
 called-arguments-requires t c κs =
     (c .before .before .before .before .before .before .before .before .before .before .before .before .before .pre .1 .0, omega (arith, c .before .before .before .before .procedure-at .ok))
 
--- src/lib.rt:229:9
+-- src/lib.rt:236:9
 called-same-length : (t : ℕ) → called-lts.Need-same-length (
   refused-reads.Asked,
   refused-reads.Learnt,
@@ -180,7 +157,7 @@ called-same-length : (t : ℕ) → called-lts.Need-same-length (
 ) (called-at t) called.Post
 called-same-length t c = search needs
 
--- src/lib.rt:229:9
+-- src/lib.rt:236:9
 called-same-length-2 : (t : ℕ) → called-lts.Need-same-length-2 (
   refused-reads.Asked,
   refused-reads.Learnt,
@@ -193,7 +170,7 @@ called-same-length-2 : (t : ℕ) → called-lts.Need-same-length-2 (
 ) (called-at t) called.Post
 called-same-length-2 t c = search needs
 
--- src/lib.rt:229:9
+-- src/lib.rt:236:9
 called-same-length-3 : (t : ℕ) → called-lts.Need-same-length-3 (
   refused-reads.Asked,
   refused-reads.Learnt,
@@ -206,7 +183,7 @@ called-same-length-3 : (t : ℕ) → called-lts.Need-same-length-3 (
 ) (called-at t) called.Post
 called-same-length-3 t c = search needs
 
--- src/lib.rt:229:9
+-- src/lib.rt:236:9
 called-returns-2 : (t : ℕ) → called-lts.Need-returns-2 (
   refused-reads.Asked,
   refused-reads.Learnt,
@@ -223,7 +200,7 @@ called-returns-2 t c =
     let a = c .before .before .before .before .before .arguments .ensures .1 (w .h) (w .s) (w .program) ρ _ _ (st .agree) (fine .within) (rows-below w st _ _ fine _ own) in
     call-refused w st _ _ fine _ own _ (a .0) _ _ _ _ _ (c .before .before .before .before .before .arguments .ensures .0) (a .1) _ (c .if2 .taken)
 
--- src/lib.rt:231:5
+-- src/lib.rt:238:5
 called-statement-requires : (t : ℕ) → called-lts.Need-statement-requires (
   refused-reads.Asked,
   refused-reads.Learnt,
@@ -237,7 +214,7 @@ called-statement-requires : (t : ℕ) → called-lts.Need-statement-requires (
 called-statement-requires t c κs =
     (omega (arith, c .before .before .before .before .before .before .before .before .before .before .before .before .before .before .before .before .before .before .before .before .before .before .pre .0, c .before .before .before .before .before .before .before .before .before .before .before .before .before .before .if1 .left), (rw (ap (λ r. r .body) (c .before .before .before .before .before .before .before .before .before .before .before .before .before .procedure-at .ensures)) (c .before .before .before .before .before .before .before .before .before .before .before .before .before .before .before .before .before .before .before .before .before .before .pre .1 .1 _ (c .before .before .before .before .before .before .before .before .before .before .before .before .before .before .if1 .left)), λ r l. c .before .before .before .before .before .before .before .before .before .before .before .before .before .before .before .before .before .before .before .before .before .before .pre .1 .1 r (omega (arith, l, c .before .before .before .before .before .before .before .before .before .before .before .before .before .before .if1 .left))))
 
--- src/lib.rt:216:1
+-- src/lib.rt:223:1
 called-same-length-4 : (t : ℕ) → called-lts.Need-same-length-4 (
   refused-reads.Asked,
   refused-reads.Learnt,
@@ -250,7 +227,7 @@ called-same-length-4 : (t : ℕ) → called-lts.Need-same-length-4 (
 ) (called-at t) called.Post
 called-same-length-4 t c = search needs
 
--- src/lib.rt:216:1
+-- src/lib.rt:223:1
 called-same-length-5 : (t : ℕ) → called-lts.Need-same-length-5 (
   refused-reads.Asked,
   refused-reads.Learnt,
@@ -263,7 +240,7 @@ called-same-length-5 : (t : ℕ) → called-lts.Need-same-length-5 (
 ) (called-at t) called.Post
 called-same-length-5 t c = search needs
 
--- src/lib.rt:216:1
+-- src/lib.rt:223:1
 called-same-length-6 : (t : ℕ) → called-lts.Need-same-length-6 (
   refused-reads.Asked,
   refused-reads.Learnt,
@@ -276,7 +253,7 @@ called-same-length-6 : (t : ℕ) → called-lts.Need-same-length-6 (
 ) (called-at t) called.Post
 called-same-length-6 t c = search needs
 
--- src/lib.rt:216:1
+-- src/lib.rt:223:1
 called-returns-3 : (t : ℕ) → called-lts.Need-returns-3 (
   refused-reads.Asked,
   refused-reads.Learnt,
@@ -294,10 +271,12 @@ called-returns-3 t c =
     call-on w st _ _ fine _ own _ (a .0) _ _ _ _ _ (c .before .before .before .before .before .before .before .before .before .before .before .before .before .before .before .arguments .ensures .0) (a .1) _ (c .before .before .before .before .before .before .before .before .before .before .if2 .left) _ _ _ _ _
       (ap (λ r. r .body) (c .before .before .before .before .before .before .before .before .before .before .before .before .before .before .before .before .before .before .before .before .procedure-at .ensures)) (c .before .before .before .before .before .before .before .before .before .before .before .before .before .before .before .arguments .kept .1 .1 .1 .1 .0) (c .before .before .before .before .before .before .statement .ensures w)
 
--- src/lib.rt:136:9
+-- src/lib.rt:143:9
 statement-begun-requires : (t : ℕ) → statement-lts.Need-begun-requires (
   begun-reads.Asked,
   begun-reads.Learnt,
+  kept-reads.Asked,
+  kept-reads.Learnt,
   statement-below t,
   statement′.Post,
   turns-below t,
@@ -311,10 +290,12 @@ statement-begun-requires : (t : ℕ) → statement-lts.Need-begun-requires (
 ) (statement-at t) statement′.Post
 statement-begun-requires t c κs = c .before .before .before .before .before .before .before .before .before .before .pre .1 .0
 
--- src/lib.rt:138:24
+-- src/lib.rt:145:24
 statement-enum-known-rest : (t : ℕ) → statement-lts.Need-enum-known-rest (
   begun-reads.Asked,
   begun-reads.Learnt,
+  kept-reads.Asked,
+  kept-reads.Learnt,
   statement-below t,
   statement′.Post,
   turns-below t,
@@ -328,10 +309,31 @@ statement-enum-known-rest : (t : ℕ) → statement-lts.Need-enum-known-rest (
 ) (statement-at t) statement′.Post
 statement-enum-known-rest t c = search needs
 
--- src/lib.rt:139:22
+-- src/lib.rt:145:33
+statement-kept-requires : (t : ℕ) → statement-lts.Need-kept-requires (
+  begun-reads.Asked,
+  begun-reads.Learnt,
+  kept-reads.Asked,
+  kept-reads.Learnt,
+  statement-below t,
+  statement′.Post,
+  turns-below t,
+  turns.Post,
+  called-below t,
+  called.Post,
+  statements-below t,
+  statements.Post,
+  block-end-reads.Asked,
+  block-end-reads.Learnt,
+) (statement-at t) statement′.Post
+statement-kept-requires t c κs = search needs
+
+-- src/lib.rt:146:22
 statement-enum-known-rest-2 : (t : ℕ) → statement-lts.Need-enum-known-rest-2 (
   begun-reads.Asked,
   begun-reads.Learnt,
+  kept-reads.Asked,
+  kept-reads.Learnt,
   statement-below t,
   statement′.Post,
   turns-below t,
@@ -345,10 +347,12 @@ statement-enum-known-rest-2 : (t : ℕ) → statement-lts.Need-enum-known-rest-2
 ) (statement-at t) statement′.Post
 statement-enum-known-rest-2 t c = search needs
 
--- src/lib.rt:139:32
+-- src/lib.rt:146:37
 statement-statement-requires : (t : ℕ) → statement-lts.Need-statement-requires (
   begun-reads.Asked,
   begun-reads.Learnt,
+  kept-reads.Asked,
+  kept-reads.Learnt,
   statement-below t,
   statement′.Post,
   turns-below t,
@@ -364,10 +368,31 @@ statement-statement-requires t c κs =
     let s = rw (c .before .before .before .before .rest2 .given .1) at (c .before .before .before .before .before .before .before .before .before .before .begun .ensures .0) in
     (omega (arith, s .1, c .before .before .before .before .before .before .before .before .before .before .before .before .before .before .before .before .before .before .before .before .before .pre .0, c .before .before .before .before .before .before .before .before .before .before .before .before .before .before .before .before .before .before .before .before .before .pre .1 .0 .inside, c .before .before .before .before .before .before .before .before .before .before .before .before .before .before .before .before .before .before .before .before .before .pre .1 .0 .code .few), (s .0, c .before .before .before .before .before .before .before .before .before .before .before .before .before .before .before .before .before .before .before .before .before .pre .1 .1))
 
--- src/lib.rt:140:21
+-- src/lib.rt:146:32
+statement-kept-requires-2 : (t : ℕ) → statement-lts.Need-kept-requires-2 (
+  begun-reads.Asked,
+  begun-reads.Learnt,
+  kept-reads.Asked,
+  kept-reads.Learnt,
+  statement-below t,
+  statement′.Post,
+  turns-below t,
+  turns.Post,
+  called-below t,
+  called.Post,
+  statements-below t,
+  statements.Post,
+  block-end-reads.Asked,
+  block-end-reads.Learnt,
+) (statement-at t) statement′.Post
+statement-kept-requires-2 t c κs = search needs
+
+-- src/lib.rt:147:21
 statement-enum-known-rest-3 : (t : ℕ) → statement-lts.Need-enum-known-rest-3 (
   begun-reads.Asked,
   begun-reads.Learnt,
+  kept-reads.Asked,
+  kept-reads.Learnt,
   statement-below t,
   statement′.Post,
   turns-below t,
@@ -381,10 +406,12 @@ statement-enum-known-rest-3 : (t : ℕ) → statement-lts.Need-enum-known-rest-3
 ) (statement-at t) statement′.Post
 statement-enum-known-rest-3 t c = search needs
 
--- src/lib.rt:140:32
+-- src/lib.rt:147:37
 statement-turns-requires : (t : ℕ) → statement-lts.Need-turns-requires (
   begun-reads.Asked,
   begun-reads.Learnt,
+  kept-reads.Asked,
+  kept-reads.Learnt,
   statement-below t,
   statement′.Post,
   turns-below t,
@@ -400,10 +427,31 @@ statement-turns-requires t c κs =
     let s = rw (c .before .before .before .before .rest3 .given .1) at (c .before .before .before .before .before .before .before .before .before .before .begun .ensures .0) in
     (omega (arith, s .1 .0, s .1 .1, c .before .before .before .before .before .before .before .before .before .before .before .before .before .before .before .before .before .before .before .before .before .pre .0), (s .0, omega (arith, s .1 .0, s .1 .1), c .before .before .before .before .before .before .before .before .before .before .before .before .before .before .before .before .before .before .before .before .before .pre .1 .1))
 
--- src/lib.rt:141:31
+-- src/lib.rt:147:32
+statement-kept-requires-3 : (t : ℕ) → statement-lts.Need-kept-requires-3 (
+  begun-reads.Asked,
+  begun-reads.Learnt,
+  kept-reads.Asked,
+  kept-reads.Learnt,
+  statement-below t,
+  statement′.Post,
+  turns-below t,
+  turns.Post,
+  called-below t,
+  called.Post,
+  statements-below t,
+  statements.Post,
+  block-end-reads.Asked,
+  block-end-reads.Learnt,
+) (statement-at t) statement′.Post
+statement-kept-requires-3 t c κs = search needs
+
+-- src/lib.rt:148:31
 statement-enum-known-rest-4 : (t : ℕ) → statement-lts.Need-enum-known-rest-4 (
   begun-reads.Asked,
   begun-reads.Learnt,
+  kept-reads.Asked,
+  kept-reads.Learnt,
   statement-below t,
   statement′.Post,
   turns-below t,
@@ -417,10 +465,12 @@ statement-enum-known-rest-4 : (t : ℕ) → statement-lts.Need-enum-known-rest-4
 ) (statement-at t) statement′.Post
 statement-enum-known-rest-4 t c = search needs
 
--- src/lib.rt:142:13
+-- src/lib.rt:149:18
 statement-called-requires : (t : ℕ) → statement-lts.Need-called-requires (
   begun-reads.Asked,
   begun-reads.Learnt,
+  kept-reads.Asked,
+  kept-reads.Learnt,
   statement-below t,
   statement′.Post,
   turns-below t,
@@ -435,10 +485,31 @@ statement-called-requires : (t : ℕ) → statement-lts.Need-called-requires (
 statement-called-requires t c κs =
     let s = rw (c .before .before .before .before .rest4 .given .1) at (c .before .before .before .before .before .before .before .before .before .before .begun .ensures .0) in (omega (arith, c .before .before .before .before .before .before .before .before .before .before .before .before .before .before .before .before .before .before .before .before .before .pre .0), (s, c .before .before .before .before .before .before .before .before .before .before .before .before .before .before .before .before .before .before .before .before .before .pre .1 .1))
 
--- src/lib.rt:144:23
+-- src/lib.rt:149:13
+statement-kept-requires-4 : (t : ℕ) → statement-lts.Need-kept-requires-4 (
+  begun-reads.Asked,
+  begun-reads.Learnt,
+  kept-reads.Asked,
+  kept-reads.Learnt,
+  statement-below t,
+  statement′.Post,
+  turns-below t,
+  turns.Post,
+  called-below t,
+  called.Post,
+  statements-below t,
+  statements.Post,
+  block-end-reads.Asked,
+  block-end-reads.Learnt,
+) (statement-at t) statement′.Post
+statement-kept-requires-4 t c κs = search needs
+
+-- src/lib.rt:151:23
 statement-enum-known-rest-5 : (t : ℕ) → statement-lts.Need-enum-known-rest-5 (
   begun-reads.Asked,
   begun-reads.Learnt,
+  kept-reads.Asked,
+  kept-reads.Learnt,
   statement-below t,
   statement′.Post,
   turns-below t,
@@ -452,10 +523,12 @@ statement-enum-known-rest-5 : (t : ℕ) → statement-lts.Need-enum-known-rest-5
 ) (statement-at t) statement′.Post
 statement-enum-known-rest-5 t c = search needs
 
--- src/lib.rt:145:17
+-- src/lib.rt:152:17
 statement-statements-requires : (t : ℕ) → statement-lts.Need-statements-requires (
   begun-reads.Asked,
   begun-reads.Learnt,
+  kept-reads.Asked,
+  kept-reads.Learnt,
   statement-below t,
   statement′.Post,
   turns-below t,
@@ -471,10 +544,31 @@ statement-statements-requires t c κs =
     let s = rw (c .before .before .before .before .rest5 .given .1) at (c .before .before .before .before .before .before .before .before .before .before .begun .ensures .0) in
     (omega (arith, s .1 .0, c .before .before .before .before .before .before .before .before .before .before .before .before .before .before .before .before .before .before .before .before .before .pre .0, c .before .before .before .before .before .before .before .before .before .before .before .before .before .before .before .before .before .before .before .before .before .pre .1 .0 .inside, c .before .before .before .before .before .before .before .before .before .before .before .before .before .before .before .before .before .before .before .before .before .pre .1 .0 .code .few), (s .0, c .before .before .before .before .before .before .before .before .before .before .before .before .before .before .before .before .before .before .before .before .before .pre .1 .1))
 
--- src/lib.rt:148:17
+-- src/lib.rt:155:17
+statement-kept-requires-5 : (t : ℕ) → statement-lts.Need-kept-requires-5 (
+  begun-reads.Asked,
+  begun-reads.Learnt,
+  kept-reads.Asked,
+  kept-reads.Learnt,
+  statement-below t,
+  statement′.Post,
+  turns-below t,
+  turns.Post,
+  called-below t,
+  called.Post,
+  statements-below t,
+  statements.Post,
+  block-end-reads.Asked,
+  block-end-reads.Learnt,
+) (statement-at t) statement′.Post
+statement-kept-requires-5 t c κs = search needs
+
+-- src/lib.rt:155:17
 statement-same-length : (t : ℕ) → statement-lts.Need-same-length (
   begun-reads.Asked,
   begun-reads.Learnt,
+  kept-reads.Asked,
+  kept-reads.Learnt,
   statement-below t,
   statement′.Post,
   turns-below t,
@@ -488,10 +582,12 @@ statement-same-length : (t : ℕ) → statement-lts.Need-same-length (
 ) (statement-at t) statement′.Post
 statement-same-length t c = search needs
 
--- src/lib.rt:148:17
+-- src/lib.rt:155:17
 statement-same-length-2 : (t : ℕ) → statement-lts.Need-same-length-2 (
   begun-reads.Asked,
   begun-reads.Learnt,
+  kept-reads.Asked,
+  kept-reads.Learnt,
   statement-below t,
   statement′.Post,
   turns-below t,
@@ -505,10 +601,12 @@ statement-same-length-2 : (t : ℕ) → statement-lts.Need-same-length-2 (
 ) (statement-at t) statement′.Post
 statement-same-length-2 t c = search needs
 
--- src/lib.rt:148:17
+-- src/lib.rt:155:17
 statement-same-length-3 : (t : ℕ) → statement-lts.Need-same-length-3 (
   begun-reads.Asked,
   begun-reads.Learnt,
+  kept-reads.Asked,
+  kept-reads.Learnt,
   statement-below t,
   statement′.Post,
   turns-below t,
@@ -522,10 +620,12 @@ statement-same-length-3 : (t : ℕ) → statement-lts.Need-same-length-3 (
 ) (statement-at t) statement′.Post
 statement-same-length-3 t c = search needs
 
--- src/lib.rt:148:17
+-- src/lib.rt:155:17
 statement-returns : (t : ℕ) → statement-lts.Need-returns (
   begun-reads.Asked,
   begun-reads.Learnt,
+  kept-reads.Asked,
+  kept-reads.Learnt,
   statement-below t,
   statement′.Post,
   turns-below t,
@@ -538,14 +638,16 @@ statement-returns : (t : ℕ) → statement-lts.Need-returns (
   block-end-reads.Learnt,
 ) (statement-at t) statement′.Post
 statement-returns t c =
-    λ w ρ st fine.
-    let o = rw (c .before .before .before .before .before .before .before .before .before .before .before .before .rest5 .given .1) at (c .before .before .before .before .before .before .before .before .before .before .before .before .before .before .before .before .before .before .begun .ensures .1 _ w _ ρ st fine) in
-    led (o .1) (both-refused w st _ _ _ _ _ _ _ _ _ (c .before .before .before .before .before .before .before .statements .ensures w ρ st (o .0 .1)) (c .if1 .taken))
+    rw (c .kept5 .ensures) (λ w ρ st fine.
+    let o = rw (c .before .before .before .before .before .before .before .before .before .before .before .before .before .rest5 .given .1) at (c .before .before .before .before .before .before .before .before .before .before .before .before .before .before .before .before .before .before .before .begun .ensures .1 _ w _ ρ st fine) in
+    led (o .1) (both-refused w st _ _ _ _ _ _ _ _ _ (c .before .before .before .before .before .before .before .before .statements .ensures w ρ st (o .0 .1)) (c .before .if1 .taken)))
 
--- src/lib.rt:150:13
+-- src/lib.rt:157:18
 statement-block-end-requires : (t : ℕ) → statement-lts.Need-block-end-requires (
   begun-reads.Asked,
   begun-reads.Learnt,
+  kept-reads.Asked,
+  kept-reads.Learnt,
   statement-below t,
   statement′.Post,
   turns-below t,
@@ -560,10 +662,31 @@ statement-block-end-requires : (t : ℕ) → statement-lts.Need-block-end-requir
 statement-block-end-requires t c κs =
     (rw (c .before .before .before .before .before .before .before .before .before .before .before .before .before .before .rest5 .given .1) at (c .before .before .before .before .before .before .before .before .before .before .before .before .before .before .before .before .before .before .before .before .begun .ensures .0)) .1 .1
 
--- src/lib.rt:131:1
+-- src/lib.rt:157:13
+statement-kept-requires-6 : (t : ℕ) → statement-lts.Need-kept-requires-6 (
+  begun-reads.Asked,
+  begun-reads.Learnt,
+  kept-reads.Asked,
+  kept-reads.Learnt,
+  statement-below t,
+  statement′.Post,
+  turns-below t,
+  turns.Post,
+  called-below t,
+  called.Post,
+  statements-below t,
+  statements.Post,
+  block-end-reads.Asked,
+  block-end-reads.Learnt,
+) (statement-at t) statement′.Post
+statement-kept-requires-6 t c κs = search needs
+
+-- src/lib.rt:138:1
 statement-same-length-4 : (t : ℕ) → statement-lts.Need-same-length-4 (
   begun-reads.Asked,
   begun-reads.Learnt,
+  kept-reads.Asked,
+  kept-reads.Learnt,
   statement-below t,
   statement′.Post,
   turns-below t,
@@ -577,10 +700,12 @@ statement-same-length-4 : (t : ℕ) → statement-lts.Need-same-length-4 (
 ) (statement-at t) statement′.Post
 statement-same-length-4 t c = search needs
 
--- src/lib.rt:131:1
+-- src/lib.rt:138:1
 statement-same-length-5 : (t : ℕ) → statement-lts.Need-same-length-5 (
   begun-reads.Asked,
   begun-reads.Learnt,
+  kept-reads.Asked,
+  kept-reads.Learnt,
   statement-below t,
   statement′.Post,
   turns-below t,
@@ -594,10 +719,12 @@ statement-same-length-5 : (t : ℕ) → statement-lts.Need-same-length-5 (
 ) (statement-at t) statement′.Post
 statement-same-length-5 t c = search needs
 
--- src/lib.rt:131:1
+-- src/lib.rt:138:1
 statement-same-length-6 : (t : ℕ) → statement-lts.Need-same-length-6 (
   begun-reads.Asked,
   begun-reads.Learnt,
+  kept-reads.Asked,
+  kept-reads.Learnt,
   statement-below t,
   statement′.Post,
   turns-below t,
@@ -611,10 +738,12 @@ statement-same-length-6 : (t : ℕ) → statement-lts.Need-same-length-6 (
 ) (statement-at t) statement′.Post
 statement-same-length-6 t c = search needs
 
--- src/lib.rt:131:1
+-- src/lib.rt:138:1
 statement-returns-2 : (t : ℕ) → statement-lts.Need-returns-2 (
   begun-reads.Asked,
   begun-reads.Learnt,
+  kept-reads.Asked,
+  kept-reads.Learnt,
   statement-below t,
   statement′.Post,
   turns-below t,
@@ -627,12 +756,14 @@ statement-returns-2 : (t : ℕ) → statement-lts.Need-returns-2 (
   block-end-reads.Learnt,
 ) (statement-at t) statement′.Post
 statement-returns-2 t c =
-    λ w ρ st fine. finished (rw (c .before .rest .given .1) at (c .before .before .before .before .before .before .before .begun .ensures .1 _ w _ ρ st fine))
+    rw (c .kept .ensures) (λ w ρ st fine. finished (rw (c .before .before .rest .given .1) at (c .before .before .before .before .before .before .before .before .begun .ensures .1 _ w _ ρ st fine)))
 
--- src/lib.rt:131:1
+-- src/lib.rt:138:1
 statement-same-length-7 : (t : ℕ) → statement-lts.Need-same-length-7 (
   begun-reads.Asked,
   begun-reads.Learnt,
+  kept-reads.Asked,
+  kept-reads.Learnt,
   statement-below t,
   statement′.Post,
   turns-below t,
@@ -646,10 +777,12 @@ statement-same-length-7 : (t : ℕ) → statement-lts.Need-same-length-7 (
 ) (statement-at t) statement′.Post
 statement-same-length-7 t c = search needs
 
--- src/lib.rt:131:1
+-- src/lib.rt:138:1
 statement-same-length-8 : (t : ℕ) → statement-lts.Need-same-length-8 (
   begun-reads.Asked,
   begun-reads.Learnt,
+  kept-reads.Asked,
+  kept-reads.Learnt,
   statement-below t,
   statement′.Post,
   turns-below t,
@@ -663,10 +796,12 @@ statement-same-length-8 : (t : ℕ) → statement-lts.Need-same-length-8 (
 ) (statement-at t) statement′.Post
 statement-same-length-8 t c = search needs
 
--- src/lib.rt:131:1
+-- src/lib.rt:138:1
 statement-same-length-9 : (t : ℕ) → statement-lts.Need-same-length-9 (
   begun-reads.Asked,
   begun-reads.Learnt,
+  kept-reads.Asked,
+  kept-reads.Learnt,
   statement-below t,
   statement′.Post,
   turns-below t,
@@ -680,10 +815,12 @@ statement-same-length-9 : (t : ℕ) → statement-lts.Need-same-length-9 (
 ) (statement-at t) statement′.Post
 statement-same-length-9 t c = search needs
 
--- src/lib.rt:131:1
+-- src/lib.rt:138:1
 statement-returns-3 : (t : ℕ) → statement-lts.Need-returns-3 (
   begun-reads.Asked,
   begun-reads.Learnt,
+  kept-reads.Asked,
+  kept-reads.Learnt,
   statement-below t,
   statement′.Post,
   turns-below t,
@@ -696,12 +833,14 @@ statement-returns-3 : (t : ℕ) → statement-lts.Need-returns-3 (
   block-end-reads.Learnt,
 ) (statement-at t) statement′.Post
 statement-returns-3 t c =
-    λ w ρ st fine. let o = rw (c .before .before .before .before .before .before .before .before .before .before .before .rest2 .given .1) at (c .before .before .before .before .before .before .before .before .before .before .before .before .before .before .before .before .before .begun .ensures .1 _ w _ ρ st fine) in led (o .1) (c .before .before .before .before .before .before .statement .ensures w ρ st (o .0))
+    rw (c .kept2 .ensures) (λ w ρ st fine. let o = rw (c .before .before .before .before .before .before .before .before .before .before .before .before .rest2 .given .1) at (c .before .before .before .before .before .before .before .before .before .before .before .before .before .before .before .before .before .before .begun .ensures .1 _ w _ ρ st fine) in led (o .1) (c .before .before .before .before .before .before .before .statement .ensures w ρ st (o .0)))
 
--- src/lib.rt:131:1
+-- src/lib.rt:138:1
 statement-same-length-10 : (t : ℕ) → statement-lts.Need-same-length-10 (
   begun-reads.Asked,
   begun-reads.Learnt,
+  kept-reads.Asked,
+  kept-reads.Learnt,
   statement-below t,
   statement′.Post,
   turns-below t,
@@ -715,10 +854,12 @@ statement-same-length-10 : (t : ℕ) → statement-lts.Need-same-length-10 (
 ) (statement-at t) statement′.Post
 statement-same-length-10 t c = search needs
 
--- src/lib.rt:131:1
+-- src/lib.rt:138:1
 statement-same-length-11 : (t : ℕ) → statement-lts.Need-same-length-11 (
   begun-reads.Asked,
   begun-reads.Learnt,
+  kept-reads.Asked,
+  kept-reads.Learnt,
   statement-below t,
   statement′.Post,
   turns-below t,
@@ -732,10 +873,12 @@ statement-same-length-11 : (t : ℕ) → statement-lts.Need-same-length-11 (
 ) (statement-at t) statement′.Post
 statement-same-length-11 t c = search needs
 
--- src/lib.rt:131:1
+-- src/lib.rt:138:1
 statement-same-length-12 : (t : ℕ) → statement-lts.Need-same-length-12 (
   begun-reads.Asked,
   begun-reads.Learnt,
+  kept-reads.Asked,
+  kept-reads.Learnt,
   statement-below t,
   statement′.Post,
   turns-below t,
@@ -749,10 +892,12 @@ statement-same-length-12 : (t : ℕ) → statement-lts.Need-same-length-12 (
 ) (statement-at t) statement′.Post
 statement-same-length-12 t c = search needs
 
--- src/lib.rt:131:1
+-- src/lib.rt:138:1
 statement-returns-4 : (t : ℕ) → statement-lts.Need-returns-4 (
   begun-reads.Asked,
   begun-reads.Learnt,
+  kept-reads.Asked,
+  kept-reads.Learnt,
   statement-below t,
   statement′.Post,
   turns-below t,
@@ -765,12 +910,14 @@ statement-returns-4 : (t : ℕ) → statement-lts.Need-returns-4 (
   block-end-reads.Learnt,
 ) (statement-at t) statement′.Post
 statement-returns-4 t c =
-    λ w ρ st fine. let o = rw (c .before .before .before .before .before .before .before .before .before .before .before .rest3 .given .1) at (c .before .before .before .before .before .before .before .before .before .before .before .before .before .before .before .before .before .begun .ensures .1 _ w _ ρ st fine) in led (o .1) (c .before .before .before .before .before .before .turns .ensures w ρ st (o .0))
+    rw (c .kept3 .ensures) (λ w ρ st fine. let o = rw (c .before .before .before .before .before .before .before .before .before .before .before .before .rest3 .given .1) at (c .before .before .before .before .before .before .before .before .before .before .before .before .before .before .before .before .before .before .begun .ensures .1 _ w _ ρ st fine) in led (o .1) (c .before .before .before .before .before .before .before .turns .ensures w ρ st (o .0)))
 
--- src/lib.rt:131:1
+-- src/lib.rt:138:1
 statement-same-length-13 : (t : ℕ) → statement-lts.Need-same-length-13 (
   begun-reads.Asked,
   begun-reads.Learnt,
+  kept-reads.Asked,
+  kept-reads.Learnt,
   statement-below t,
   statement′.Post,
   turns-below t,
@@ -784,10 +931,12 @@ statement-same-length-13 : (t : ℕ) → statement-lts.Need-same-length-13 (
 ) (statement-at t) statement′.Post
 statement-same-length-13 t c = search needs
 
--- src/lib.rt:131:1
+-- src/lib.rt:138:1
 statement-same-length-14 : (t : ℕ) → statement-lts.Need-same-length-14 (
   begun-reads.Asked,
   begun-reads.Learnt,
+  kept-reads.Asked,
+  kept-reads.Learnt,
   statement-below t,
   statement′.Post,
   turns-below t,
@@ -801,10 +950,12 @@ statement-same-length-14 : (t : ℕ) → statement-lts.Need-same-length-14 (
 ) (statement-at t) statement′.Post
 statement-same-length-14 t c = search needs
 
--- src/lib.rt:131:1
+-- src/lib.rt:138:1
 statement-same-length-15 : (t : ℕ) → statement-lts.Need-same-length-15 (
   begun-reads.Asked,
   begun-reads.Learnt,
+  kept-reads.Asked,
+  kept-reads.Learnt,
   statement-below t,
   statement′.Post,
   turns-below t,
@@ -818,10 +969,12 @@ statement-same-length-15 : (t : ℕ) → statement-lts.Need-same-length-15 (
 ) (statement-at t) statement′.Post
 statement-same-length-15 t c = search needs
 
--- src/lib.rt:131:1
+-- src/lib.rt:138:1
 statement-returns-5 : (t : ℕ) → statement-lts.Need-returns-5 (
   begun-reads.Asked,
   begun-reads.Learnt,
+  kept-reads.Asked,
+  kept-reads.Learnt,
   statement-below t,
   statement′.Post,
   turns-below t,
@@ -834,12 +987,14 @@ statement-returns-5 : (t : ℕ) → statement-lts.Need-returns-5 (
   block-end-reads.Learnt,
 ) (statement-at t) statement′.Post
 statement-returns-5 t c =
-    λ w ρ st fine. let o = rw (c .before .before .before .before .before .before .before .before .before .before .before .rest4 .given .1) at (c .before .before .before .before .before .before .before .before .before .before .before .before .before .before .before .before .before .begun .ensures .1 _ w _ ρ st fine) in led (o .1) (c .before .before .before .before .before .before .called .ensures w ρ st (o .0))
+    rw (c .kept4 .ensures) (λ w ρ st fine. let o = rw (c .before .before .before .before .before .before .before .before .before .before .before .before .rest4 .given .1) at (c .before .before .before .before .before .before .before .before .before .before .before .before .before .before .before .before .before .before .begun .ensures .1 _ w _ ρ st fine) in led (o .1) (c .before .before .before .before .before .before .before .called .ensures w ρ st (o .0)))
 
--- src/lib.rt:131:1
+-- src/lib.rt:138:1
 statement-same-length-16 : (t : ℕ) → statement-lts.Need-same-length-16 (
   begun-reads.Asked,
   begun-reads.Learnt,
+  kept-reads.Asked,
+  kept-reads.Learnt,
   statement-below t,
   statement′.Post,
   turns-below t,
@@ -851,12 +1006,15 @@ statement-same-length-16 : (t : ℕ) → statement-lts.Need-same-length-16 (
   block-end-reads.Asked,
   block-end-reads.Learnt,
 ) (statement-at t) statement′.Post
-statement-same-length-16 t c = search needs
+statement-same-length-16 t c =
+    c .before .before .before .before .before .before .before .before .before .before .before .statements .kept .1 .1 .1 .1 .0 ∙ c .before .before .before .before .before .before .before .before .before .before .before .before .before .before .before .before .before .before .before .before .before .before .begun .kept .1 .1 .1 .0
 
--- src/lib.rt:131:1
+-- src/lib.rt:138:1
 statement-same-length-17 : (t : ℕ) → statement-lts.Need-same-length-17 (
   begun-reads.Asked,
   begun-reads.Learnt,
+  kept-reads.Asked,
+  kept-reads.Learnt,
   statement-below t,
   statement′.Post,
   turns-below t,
@@ -868,12 +1026,14 @@ statement-same-length-17 : (t : ℕ) → statement-lts.Need-same-length-17 (
   block-end-reads.Asked,
   block-end-reads.Learnt,
 ) (statement-at t) statement′.Post
-statement-same-length-17 t c = search needs
+statement-same-length-17 t c = c .before .before .before .before .before .before .before .before .before .before .before .statements .kept .1 .1 .1 .1 .1 .0
 
--- src/lib.rt:131:1
+-- src/lib.rt:138:1
 statement-same-length-18 : (t : ℕ) → statement-lts.Need-same-length-18 (
   begun-reads.Asked,
   begun-reads.Learnt,
+  kept-reads.Asked,
+  kept-reads.Learnt,
   statement-below t,
   statement′.Post,
   turns-below t,
@@ -885,12 +1045,15 @@ statement-same-length-18 : (t : ℕ) → statement-lts.Need-same-length-18 (
   block-end-reads.Asked,
   block-end-reads.Learnt,
 ) (statement-at t) statement′.Post
-statement-same-length-18 t c = search needs
+statement-same-length-18 t c =
+    c .before .before .before .before .before .before .before .before .before .before .before .statements .kept .1 .1 .1 .1 .1 .1 .0 ∙ c .before .before .before .before .before .before .before .before .before .before .before .before .before .before .before .before .before .before .before .before .before .before .begun .kept .1 .1 .1 .1 .1 .0
 
--- src/lib.rt:131:1
+-- src/lib.rt:138:1
 statement-returns-6 : (t : ℕ) → statement-lts.Need-returns-6 (
   begun-reads.Asked,
   begun-reads.Learnt,
+  kept-reads.Asked,
+  kept-reads.Learnt,
   statement-below t,
   statement′.Post,
   turns-below t,
@@ -903,39 +1066,45 @@ statement-returns-6 : (t : ℕ) → statement-lts.Need-returns-6 (
   block-end-reads.Learnt,
 ) (statement-at t) statement′.Post
 statement-returns-6 t c =
-    λ w ρ st fine.
-    let o = rw (c .before .before .before .before .before .before .before .before .before .before .before .before .before .before .before .rest5 .given .1) at (c .before .before .before .before .before .before .before .before .before .before .before .before .before .before .before .before .before .before .before .before .before .begun .ensures .1 _ w _ ρ st fine) in
-    led (o .1) (both-on w st _ _ _ _ _ _ _ _ _ (c .before .before .before .before .before .before .before .before .before .before .statements .ensures w ρ st (o .0 .1)) (c .before .before .before .if1 .left) (c .before .before .before .before .before .before .before .before .before .before .statements .kept .1 .1 .1 .1 .1 .0) _ _ _ _
-      (λ st₁. end-ran w st₁ _ _ _ (o .0 .0) _ _ _ _ (c .block-end .ensures _)))
+    rw (c .kept6 .ensures) (λ w ρ st fine.
+    let o = rw (c .before .before .before .before .before .before .before .before .before .before .before .before .before .before .before .before .rest5 .given .1) at (c .before .before .before .before .before .before .before .before .before .before .before .before .before .before .before .before .before .before .before .before .before .before .begun .ensures .1 _ w _ ρ st fine) in
+    led (o .1) (both-on w st _ _ _ _ _ _ _ _ _ (c .before .before .before .before .before .before .before .before .before .before .before .statements .ensures w ρ st (o .0 .1)) (c .before .before .before .before .if1 .left) (c .before .before .before .before .before .before .before .before .before .before .before .statements .kept .1 .1 .1 .1 .1 .0) _ _ _ _
+      (λ st₁. end-ran w st₁ _ _ _ (o .0 .0) _ _ _ _ (c .before .block-end .ensures _))))
 
--- src/lib.rt:162:9
+-- src/lib.rt:169:9
 statements-returns : (t : ℕ) → statements-lts.Need-returns (
   next-at-reads.Asked,
   next-at-reads.Learnt,
   statements-below t,
   statements.Post,
+  kept-reads.Asked,
+  kept-reads.Learnt,
   statement-below t,
   statement′.Post,
 ) (statements-at t) statements.Post
 statements-returns t c = λ w ρ st fine. none w _ _ ρ _ (c .if1 .taken) _ _ _ _
 
--- src/lib.rt:164:9
+-- src/lib.rt:171:9
 statements-next-at-requires : (t : ℕ) → statements-lts.Need-next-at-requires (
   next-at-reads.Asked,
   next-at-reads.Learnt,
   statements-below t,
   statements.Post,
+  kept-reads.Asked,
+  kept-reads.Learnt,
   statement-below t,
   statement′.Post,
 ) (statements-at t) statements.Post
 statements-next-at-requires t c κs = search needs
 
--- src/lib.rt:166:13
+-- src/lib.rt:173:13
 statements-statements-requires : (t : ℕ) → statements-lts.Need-statements-requires (
   next-at-reads.Asked,
   next-at-reads.Learnt,
   statements-below t,
   statements.Post,
+  kept-reads.Asked,
+  kept-reads.Learnt,
   statement-below t,
   statement′.Post,
 ) (statements-at t) statements.Post
@@ -943,181 +1112,250 @@ statements-statements-requires t c κs =
     let sn = c .before .before .before .before .before .before .before .before .before .before .before .before .before .pre .1 .0 (c .before .before .before .before .before .if1 .left) in
     (omega (arith, next-behind sn, c .before .before .before .before .next-at .ensures, c .before .before .before .before .before .before .before .before .before .before .before .before .before .pre .0, sn .inside, sn .code .few), (rw (c .before .before .before .before .next-at .ensures) (next-chain sn), c .before .before .before .before .before .before .before .before .before .before .before .before .before .pre .1 .1))
 
--- src/lib.rt:169:13
+-- src/lib.rt:176:13
+statements-kept-requires : (t : ℕ) → statements-lts.Need-kept-requires (
+  next-at-reads.Asked,
+  next-at-reads.Learnt,
+  statements-below t,
+  statements.Post,
+  kept-reads.Asked,
+  kept-reads.Learnt,
+  statement-below t,
+  statement′.Post,
+) (statements-at t) statements.Post
+statements-kept-requires t c κs = search needs
+
+-- src/lib.rt:176:13
 statements-same-length : (t : ℕ) → statements-lts.Need-same-length (
   next-at-reads.Asked,
   next-at-reads.Learnt,
   statements-below t,
   statements.Post,
+  kept-reads.Asked,
+  kept-reads.Learnt,
   statement-below t,
   statement′.Post,
 ) (statements-at t) statements.Post
 statements-same-length t c = search needs
 
--- src/lib.rt:169:13
+-- src/lib.rt:176:13
 statements-same-length-2 : (t : ℕ) → statements-lts.Need-same-length-2 (
   next-at-reads.Asked,
   next-at-reads.Learnt,
   statements-below t,
   statements.Post,
+  kept-reads.Asked,
+  kept-reads.Learnt,
   statement-below t,
   statement′.Post,
 ) (statements-at t) statements.Post
 statements-same-length-2 t c = search needs
 
--- src/lib.rt:169:13
+-- src/lib.rt:176:13
 statements-same-length-3 : (t : ℕ) → statements-lts.Need-same-length-3 (
   next-at-reads.Asked,
   next-at-reads.Learnt,
   statements-below t,
   statements.Post,
+  kept-reads.Asked,
+  kept-reads.Learnt,
   statement-below t,
   statement′.Post,
 ) (statements-at t) statements.Post
 statements-same-length-3 t c = search needs
 
--- src/lib.rt:169:13
+-- src/lib.rt:176:13
 statements-returns-2 : (t : ℕ) → statements-lts.Need-returns-2 (
   next-at-reads.Asked,
   next-at-reads.Learnt,
   statements-below t,
   statements.Post,
+  kept-reads.Asked,
+  kept-reads.Learnt,
   statement-below t,
   statement′.Post,
 ) (statements-at t) statements.Post
 statements-returns-2 t c =
-    λ w ρ st fine.
-    let sn = c .before .before .before .before .before .before .before .before .before .before .before .before .before .before .before .before .before .before .before .before .before .pre .1 .0 (c .before .before .before .before .before .before .before .before .before .before .before .before .before .if1 .left) in
-    ran-same (list-inverse w sn _ (c .before .before .before .before .before .before .before .before .before .before .before .before .before .before .before .before .before .before .before .before .before .args .inverse) ρ _ (c .before .before .before .before .before .before .before .before .before .before .before .before .next-at .ensures) (c .before .before .before .before .before .before .before .before .before .before .before .if2 .taken))
-      (both-refused w st _ _ _ _ _ _ _ _ _ (c .before .before .before .before .before .before .before .statements .ensures w ρ st (fine-rest w sn _ fine _ (c .before .before .before .before .before .before .before .before .before .before .before .before .next-at .ensures))) (c .if3 .taken))
+    rw (c .kept .ensures) (λ w ρ st fine.
+    let sn = c .before .before .before .before .before .before .before .before .before .before .before .before .before .before .before .before .before .before .before .before .before .before .pre .1 .0 (c .before .before .before .before .before .before .before .before .before .before .before .before .before .before .if1 .left) in
+    ran-same (list-inverse w sn _ (c .before .before .before .before .before .before .before .before .before .before .before .before .before .before .before .before .before .before .before .before .before .before .args .inverse) ρ _ (c .before .before .before .before .before .before .before .before .before .before .before .before .before .next-at .ensures) (c .before .before .before .before .before .before .before .before .before .before .before .before .if2 .taken))
+      (both-refused w st _ _ _ _ _ _ _ _ _ (c .before .before .before .before .before .before .before .before .statements .ensures w ρ st (fine-rest w sn _ fine _ (c .before .before .before .before .before .before .before .before .before .before .before .before .before .next-at .ensures))) (c .before .if3 .taken)))
 
--- src/lib.rt:171:9
+-- src/lib.rt:178:21
 statements-statement-requires : (t : ℕ) → statements-lts.Need-statement-requires (
   next-at-reads.Asked,
   next-at-reads.Learnt,
   statements-below t,
   statements.Post,
+  kept-reads.Asked,
+  kept-reads.Learnt,
   statement-below t,
   statement′.Post,
 ) (statements-at t) statements.Post
 statements-statement-requires t c κs =
     (omega (arith, c .before .before .before .before .before .before .before .before .before .before .before .before .before .before .before .before .before .before .before .before .before .before .before .before .pre .0), (c .before .before .before .before .before .before .before .before .before .before .before .before .before .before .before .before .before .before .before .before .before .before .before .before .pre .1 .0 (c .before .before .before .before .before .before .before .before .before .before .before .before .before .before .before .before .if1 .left), c .before .before .before .before .before .before .before .before .before .before .before .before .before .before .before .before .before .before .before .before .before .before .before .before .pre .1 .1))
 
--- src/lib.rt:171:9
+-- src/lib.rt:178:9
+statements-kept-requires-2 : (t : ℕ) → statements-lts.Need-kept-requires-2 (
+  next-at-reads.Asked,
+  next-at-reads.Learnt,
+  statements-below t,
+  statements.Post,
+  kept-reads.Asked,
+  kept-reads.Learnt,
+  statement-below t,
+  statement′.Post,
+) (statements-at t) statements.Post
+statements-kept-requires-2 t c κs = search needs
+
+-- src/lib.rt:178:9
 statements-same-length-4 : (t : ℕ) → statements-lts.Need-same-length-4 (
   next-at-reads.Asked,
   next-at-reads.Learnt,
   statements-below t,
   statements.Post,
+  kept-reads.Asked,
+  kept-reads.Learnt,
   statement-below t,
   statement′.Post,
 ) (statements-at t) statements.Post
 statements-same-length-4 t c = search needs
 
--- src/lib.rt:171:9
+-- src/lib.rt:178:9
 statements-same-length-5 : (t : ℕ) → statements-lts.Need-same-length-5 (
   next-at-reads.Asked,
   next-at-reads.Learnt,
   statements-below t,
   statements.Post,
+  kept-reads.Asked,
+  kept-reads.Learnt,
   statement-below t,
   statement′.Post,
 ) (statements-at t) statements.Post
 statements-same-length-5 t c = search needs
 
--- src/lib.rt:171:9
+-- src/lib.rt:178:9
 statements-same-length-6 : (t : ℕ) → statements-lts.Need-same-length-6 (
   next-at-reads.Asked,
   next-at-reads.Learnt,
   statements-below t,
   statements.Post,
+  kept-reads.Asked,
+  kept-reads.Learnt,
   statement-below t,
   statement′.Post,
 ) (statements-at t) statements.Post
 statements-same-length-6 t c = search needs
 
--- src/lib.rt:171:9
+-- src/lib.rt:178:9
 statements-returns-3 : (t : ℕ) → statements-lts.Need-returns-3 (
   next-at-reads.Asked,
   next-at-reads.Learnt,
   statements-below t,
   statements.Post,
+  kept-reads.Asked,
+  kept-reads.Learnt,
   statement-below t,
   statement′.Post,
 ) (statements-at t) statements.Post
 statements-returns-3 t c =
-    λ w ρ st fine.
-    let sn = c .before .before .before .before .before .before .before .before .before .before .before .before .before .before .before .before .before .before .before .before .before .before .before .before .before .before .before .before .before .before .before .pre .1 .0 (c .before .before .before .before .before .before .before .before .before .before .before .before .before .before .before .before .before .before .before .before .before .before .before .if1 .left) in
-    ran-same (list-inverse w sn _ (c .before .before .before .before .before .before .before .before .before .before .before .before .before .before .before .before .before .before .before .before .before .before .before .before .before .before .before .before .before .before .before .args .inverse) ρ _ (c .before .before .before .before .before .before .before .before .before .before .before .before .before .before .before .before .before .before .before .before .before .before .next-at .ensures) (c .before .before .before .before .before .before .before .before .before .before .before .before .before .before .before .before .before .before .before .before .before .if2 .taken))
-      (both-on w st _ _ _ _ _ _ _ _ _ (c .before .before .before .before .before .before .before .before .before .before .before .before .before .before .before .before .before .statements .ensures w ρ st (fine-rest w sn _ fine _ (c .before .before .before .before .before .before .before .before .before .before .before .before .before .before .before .before .before .before .before .before .before .before .next-at .ensures))) (c .before .before .before .before .before .before .before .before .before .before .if3 .left)
-        (c .before .before .before .before .before .before .before .before .before .before .before .before .before .before .before .before .before .statements .kept .1 .1 .1 .1 .1 .0) _ _ _ _ (λ st₁. c .before .before .before .before .before .before .statement .ensures w ρ st₁ (fine-first w sn _ fine)))
+    rw (c .kept2 .ensures) (λ w ρ st fine.
+    let sn = c .before .before .before .before .before .before .before .before .before .before .before .before .before .before .before .before .before .before .before .before .before .before .before .before .before .before .before .before .before .before .before .before .pre .1 .0 (c .before .before .before .before .before .before .before .before .before .before .before .before .before .before .before .before .before .before .before .before .before .before .before .before .if1 .left) in
+    ran-same (list-inverse w sn _ (c .before .before .before .before .before .before .before .before .before .before .before .before .before .before .before .before .before .before .before .before .before .before .before .before .before .before .before .before .before .before .before .before .args .inverse) ρ _ (c .before .before .before .before .before .before .before .before .before .before .before .before .before .before .before .before .before .before .before .before .before .before .before .next-at .ensures) (c .before .before .before .before .before .before .before .before .before .before .before .before .before .before .before .before .before .before .before .before .before .before .if2 .taken))
+      (both-on w st _ _ _ _ _ _ _ _ _ (c .before .before .before .before .before .before .before .before .before .before .before .before .before .before .before .before .before .before .statements .ensures w ρ st (fine-rest w sn _ fine _ (c .before .before .before .before .before .before .before .before .before .before .before .before .before .before .before .before .before .before .before .before .before .before .before .next-at .ensures))) (c .before .before .before .before .before .before .before .before .before .before .before .if3 .left)
+        (c .before .before .before .before .before .before .before .before .before .before .before .before .before .before .before .before .before .before .statements .kept .1 .1 .1 .1 .1 .0) _ _ _ _ (λ st₁. c .before .before .before .before .before .before .before .statement .ensures w ρ st₁ (fine-first w sn _ fine))))
 
--- src/lib.rt:173:9
+-- src/lib.rt:180:9
 statements-statement-requires-2 : (t : ℕ) → statements-lts.Need-statement-requires-2 (
   next-at-reads.Asked,
   next-at-reads.Learnt,
   statements-below t,
   statements.Post,
+  kept-reads.Asked,
+  kept-reads.Learnt,
   statement-below t,
   statement′.Post,
 ) (statements-at t) statements.Post
 statements-statement-requires-2 t c κs =
     (omega (arith, c .before .before .before .before .before .before .before .before .before .before .before .before .before .pre .0), (c .before .before .before .before .before .before .before .before .before .before .before .before .before .pre .1 .0 (c .before .before .before .before .before .if1 .left), c .before .before .before .before .before .before .before .before .before .before .before .before .before .pre .1 .1))
 
--- src/lib.rt:176:9
+-- src/lib.rt:183:9
+statements-kept-requires-3 : (t : ℕ) → statements-lts.Need-kept-requires-3 (
+  next-at-reads.Asked,
+  next-at-reads.Learnt,
+  statements-below t,
+  statements.Post,
+  kept-reads.Asked,
+  kept-reads.Learnt,
+  statement-below t,
+  statement′.Post,
+) (statements-at t) statements.Post
+statements-kept-requires-3 t c κs = search needs
+
+-- src/lib.rt:183:9
 statements-same-length-7 : (t : ℕ) → statements-lts.Need-same-length-7 (
   next-at-reads.Asked,
   next-at-reads.Learnt,
   statements-below t,
   statements.Post,
+  kept-reads.Asked,
+  kept-reads.Learnt,
   statement-below t,
   statement′.Post,
 ) (statements-at t) statements.Post
 statements-same-length-7 t c = search needs
 
--- src/lib.rt:176:9
+-- src/lib.rt:183:9
 statements-same-length-8 : (t : ℕ) → statements-lts.Need-same-length-8 (
   next-at-reads.Asked,
   next-at-reads.Learnt,
   statements-below t,
   statements.Post,
+  kept-reads.Asked,
+  kept-reads.Learnt,
   statement-below t,
   statement′.Post,
 ) (statements-at t) statements.Post
 statements-same-length-8 t c = search needs
 
--- src/lib.rt:176:9
+-- src/lib.rt:183:9
 statements-same-length-9 : (t : ℕ) → statements-lts.Need-same-length-9 (
   next-at-reads.Asked,
   next-at-reads.Learnt,
   statements-below t,
   statements.Post,
+  kept-reads.Asked,
+  kept-reads.Learnt,
   statement-below t,
   statement′.Post,
 ) (statements-at t) statements.Post
 statements-same-length-9 t c = search needs
 
--- src/lib.rt:176:9
+-- src/lib.rt:183:9
 statements-returns-4 : (t : ℕ) → statements-lts.Need-returns-4 (
   next-at-reads.Asked,
   next-at-reads.Learnt,
   statements-below t,
   statements.Post,
+  kept-reads.Asked,
+  kept-reads.Learnt,
   statement-below t,
   statement′.Post,
 ) (statements-at t) statements.Post
 statements-returns-4 t c =
-    λ w ρ st fine.
-    let sn = c .before .before .before .before .before .before .before .before .before .before .before .before .before .before .before .before .before .before .before .before .before .pre .1 .0 (c .before .before .before .before .before .before .before .before .before .before .before .before .before .if1 .left) in
-    ran-same (list-forward w sn _ (c .before .before .before .before .before .before .before .before .before .before .before .before .before .before .before .before .before .before .before .before .before .args .inverse) ρ _ (c .before .before .before .before .before .before .before .before .before .before .before .before .next-at .ensures) (c .before .before .before .before .before .before .before .before .before .before .before .if2 .left))
-      (both-refused w st _ _ _ _ _ _ _ _ _ (c .before .before .before .before .before .before .before .statement2 .ensures w ρ st (fine-first w sn _ fine)) (c .if4 .taken))
+    rw (c .kept3 .ensures) (λ w ρ st fine.
+    let sn = c .before .before .before .before .before .before .before .before .before .before .before .before .before .before .before .before .before .before .before .before .before .before .pre .1 .0 (c .before .before .before .before .before .before .before .before .before .before .before .before .before .before .if1 .left) in
+    ran-same (list-forward w sn _ (c .before .before .before .before .before .before .before .before .before .before .before .before .before .before .before .before .before .before .before .before .before .before .args .inverse) ρ _ (c .before .before .before .before .before .before .before .before .before .before .before .before .before .next-at .ensures) (c .before .before .before .before .before .before .before .before .before .before .before .before .if2 .left))
+      (both-refused w st _ _ _ _ _ _ _ _ _ (c .before .before .before .before .before .before .before .before .statement2 .ensures w ρ st (fine-first w sn _ fine)) (c .before .if4 .taken)))
 
--- src/lib.rt:178:5
+-- src/lib.rt:185:10
 statements-statements-requires-2 : (t : ℕ) → statements-lts.Need-statements-requires-2 (
   next-at-reads.Asked,
   next-at-reads.Learnt,
   statements-below t,
   statements.Post,
+  kept-reads.Asked,
+  kept-reads.Learnt,
   statement-below t,
   statement′.Post,
 ) (statements-at t) statements.Post
@@ -1125,54 +1363,75 @@ statements-statements-requires-2 t c κs =
     let sn = c .before .before .before .before .before .before .before .before .before .before .before .before .before .before .before .before .before .before .before .before .before .before .before .before .pre .1 .0 (c .before .before .before .before .before .before .before .before .before .before .before .before .before .before .before .before .if1 .left) in
     (omega (arith, next-behind sn, c .before .before .before .before .before .before .before .before .before .before .before .before .before .before .before .next-at .ensures, c .before .before .before .before .before .before .before .before .before .before .before .before .before .before .before .before .before .before .before .before .before .before .before .before .pre .0, sn .inside, sn .code .few), (rw (c .before .before .before .before .before .before .before .before .before .before .before .before .before .before .before .next-at .ensures) (next-chain sn), c .before .before .before .before .before .before .before .before .before .before .before .before .before .before .before .before .before .before .before .before .before .before .before .before .pre .1 .1))
 
--- src/lib.rt:156:1
+-- src/lib.rt:185:5
+statements-kept-requires-4 : (t : ℕ) → statements-lts.Need-kept-requires-4 (
+  next-at-reads.Asked,
+  next-at-reads.Learnt,
+  statements-below t,
+  statements.Post,
+  kept-reads.Asked,
+  kept-reads.Learnt,
+  statement-below t,
+  statement′.Post,
+) (statements-at t) statements.Post
+statements-kept-requires-4 t c κs = search needs
+
+-- src/lib.rt:163:1
 statements-same-length-10 : (t : ℕ) → statements-lts.Need-same-length-10 (
   next-at-reads.Asked,
   next-at-reads.Learnt,
   statements-below t,
   statements.Post,
+  kept-reads.Asked,
+  kept-reads.Learnt,
   statement-below t,
   statement′.Post,
 ) (statements-at t) statements.Post
 statements-same-length-10 t c = search needs
 
--- src/lib.rt:156:1
+-- src/lib.rt:163:1
 statements-same-length-11 : (t : ℕ) → statements-lts.Need-same-length-11 (
   next-at-reads.Asked,
   next-at-reads.Learnt,
   statements-below t,
   statements.Post,
+  kept-reads.Asked,
+  kept-reads.Learnt,
   statement-below t,
   statement′.Post,
 ) (statements-at t) statements.Post
 statements-same-length-11 t c = search needs
 
--- src/lib.rt:156:1
+-- src/lib.rt:163:1
 statements-same-length-12 : (t : ℕ) → statements-lts.Need-same-length-12 (
   next-at-reads.Asked,
   next-at-reads.Learnt,
   statements-below t,
   statements.Post,
+  kept-reads.Asked,
+  kept-reads.Learnt,
   statement-below t,
   statement′.Post,
 ) (statements-at t) statements.Post
 statements-same-length-12 t c = search needs
 
--- src/lib.rt:156:1
+-- src/lib.rt:163:1
 statements-returns-5 : (t : ℕ) → statements-lts.Need-returns-5 (
   next-at-reads.Asked,
   next-at-reads.Learnt,
   statements-below t,
   statements.Post,
+  kept-reads.Asked,
+  kept-reads.Learnt,
   statement-below t,
   statement′.Post,
 ) (statements-at t) statements.Post
 statements-returns-5 t c =
-    λ w ρ st fine.
-    let sn = c .before .before .before .before .before .before .before .before .before .before .before .before .before .before .before .before .before .before .before .before .before .before .before .before .before .before .before .before .before .before .before .pre .1 .0 (c .before .before .before .before .before .before .before .before .before .before .before .before .before .before .before .before .before .before .before .before .before .before .before .if1 .left) in
-    ran-same (list-forward w sn _ (c .before .before .before .before .before .before .before .before .before .before .before .before .before .before .before .before .before .before .before .before .before .before .before .before .before .before .before .before .before .before .before .args .inverse) ρ _ (c .before .before .before .before .before .before .before .before .before .before .before .before .before .before .before .before .before .before .before .before .before .before .next-at .ensures) (c .before .before .before .before .before .before .before .before .before .before .before .before .before .before .before .before .before .before .before .before .before .if2 .left))
-      (both-on w st _ _ _ _ _ _ _ _ _ (c .before .before .before .before .before .before .before .before .before .before .before .before .before .before .before .before .before .statement2 .ensures w ρ st (fine-first w sn _ fine)) (c .before .before .before .before .before .before .before .before .before .before .if4 .left)
-        (c .before .before .before .before .before .before .before .before .before .before .before .before .before .before .before .before .before .statement2 .kept .1 .1 .1 .1 .1 .0) _ _ _ _ (λ st₁. c .before .before .before .before .before .before .statements2 .ensures w ρ st₁ (fine-rest w sn _ fine _ (c .before .before .before .before .before .before .before .before .before .before .before .before .before .before .before .before .before .before .before .before .before .before .next-at .ensures))))
+    rw (c .kept4 .ensures) (λ w ρ st fine.
+    let sn = c .before .before .before .before .before .before .before .before .before .before .before .before .before .before .before .before .before .before .before .before .before .before .before .before .before .before .before .before .before .before .before .before .pre .1 .0 (c .before .before .before .before .before .before .before .before .before .before .before .before .before .before .before .before .before .before .before .before .before .before .before .before .if1 .left) in
+    ran-same (list-forward w sn _ (c .before .before .before .before .before .before .before .before .before .before .before .before .before .before .before .before .before .before .before .before .before .before .before .before .before .before .before .before .before .before .before .before .args .inverse) ρ _ (c .before .before .before .before .before .before .before .before .before .before .before .before .before .before .before .before .before .before .before .before .before .before .before .next-at .ensures) (c .before .before .before .before .before .before .before .before .before .before .before .before .before .before .before .before .before .before .before .before .before .before .if2 .left))
+      (both-on w st _ _ _ _ _ _ _ _ _ (c .before .before .before .before .before .before .before .before .before .before .before .before .before .before .before .before .before .before .statement2 .ensures w ρ st (fine-first w sn _ fine)) (c .before .before .before .before .before .before .before .before .before .before .before .if4 .left)
+        (c .before .before .before .before .before .before .before .before .before .before .before .before .before .before .before .before .before .before .statement2 .kept .1 .1 .1 .1 .1 .0) _ _ _ _ (λ st₁. c .before .before .before .before .before .before .before .statements2 .ensures w ρ st₁ (fine-rest w sn _ fine _ (c .before .before .before .before .before .before .before .before .before .before .before .before .before .before .before .before .before .before .before .before .before .before .before .next-at .ensures)))))
 
 abbrev turns-Inv-loop : turns-lts.InvT-loop
 turns-Inv-loop nodes procedures variables constants cells₀ slots₀ trace₀ inverse p it counter₀ done₀ left₀ cells slots trace counter done left =
@@ -1182,7 +1441,7 @@ abbrev turns-μ-loop : turns-lts.MeasureT-loop
 turns-μ-loop nodes procedures variables constants cells₀ slots₀ trace₀ inverse p it counter₀ done₀ left₀ cells slots trace counter done left =
     left
 
--- src/lib.rt:187:5
+-- src/lib.rt:194:5
 turns-put-requires : (t : ℕ) → turns-lts.Need-put-requires (
   put-reads.Asked,
   put-reads.Learnt,
@@ -1197,7 +1456,7 @@ turns-put-requires : (t : ℕ) → turns-lts.Need-put-requires (
 ) (turns-at t) turns.Post turns-Inv-loop turns-μ-loop
 turns-put-requires t c κs = search needs
 
--- src/lib.rt:188:9
+-- src/lib.rt:195:9
 turns-cell-requires : (t : ℕ) → turns-lts.Need-cell-requires (
   put-reads.Asked,
   put-reads.Learnt,
@@ -1212,7 +1471,7 @@ turns-cell-requires : (t : ℕ) → turns-lts.Need-cell-requires (
 ) (turns-at t) turns.Post turns-Inv-loop turns-μ-loop
 turns-cell-requires t c κs = search needs
 
--- src/lib.rt:191:5
+-- src/lib.rt:198:5
 turns-loop-holds : (t : ℕ) → turns-lts.Need-loop-holds (
   put-reads.Asked,
   put-reads.Learnt,
@@ -1227,7 +1486,7 @@ turns-loop-holds : (t : ℕ) → turns-lts.Need-loop-holds (
 ) (turns-at t) turns.Post turns-Inv-loop turns-μ-loop
 turns-loop-holds t c = record { counts = c .cell .ensures; cells-long = refl; slots-long = refl; trace-long = refl; turned = turned-starts _ _ _ _ _ _ _ }
 
--- src/lib.rt:193:13
+-- src/lib.rt:200:13
 turns-refused-requires : (t : ℕ) → turns-lts.Need-refused-requires (
   put-reads.Asked,
   put-reads.Learnt,
@@ -1242,7 +1501,7 @@ turns-refused-requires : (t : ℕ) → turns-lts.Need-refused-requires (
 ) (turns-at t) turns.Post turns-Inv-loop turns-μ-loop
 turns-refused-requires t c κs = search needs
 
--- src/lib.rt:193:13
+-- src/lib.rt:200:13
 turns-same-length : (t : ℕ) → turns-lts.Need-same-length (
   put-reads.Asked,
   put-reads.Learnt,
@@ -1258,7 +1517,7 @@ turns-same-length : (t : ℕ) → turns-lts.Need-same-length (
 turns-same-length t c =
     c .before .before .before .before .loop .inv .cells-long ∙ c .before .before .before .before .before .before .before .before .before .put .kept .0
 
--- src/lib.rt:193:13
+-- src/lib.rt:200:13
 turns-same-length-2 : (t : ℕ) → turns-lts.Need-same-length-2 (
   put-reads.Asked,
   put-reads.Learnt,
@@ -1273,7 +1532,7 @@ turns-same-length-2 : (t : ℕ) → turns-lts.Need-same-length-2 (
 ) (turns-at t) turns.Post turns-Inv-loop turns-μ-loop
 turns-same-length-2 t c = c .before .before .before .before .loop .inv .slots-long
 
--- src/lib.rt:193:13
+-- src/lib.rt:200:13
 turns-same-length-3 : (t : ℕ) → turns-lts.Need-same-length-3 (
   put-reads.Asked,
   put-reads.Learnt,
@@ -1288,7 +1547,7 @@ turns-same-length-3 : (t : ℕ) → turns-lts.Need-same-length-3 (
 ) (turns-at t) turns.Post turns-Inv-loop turns-μ-loop
 turns-same-length-3 t c = c .before .before .before .before .loop .inv .trace-long
 
--- src/lib.rt:193:13
+-- src/lib.rt:200:13
 turns-returns : (t : ℕ) → turns-lts.Need-returns (
   put-reads.Asked,
   put-reads.Learnt,
@@ -1307,7 +1566,7 @@ turns-returns t c =
       (λ e. omega (arith, c .refused .ensures .number-is, e))
       (λ st₁ k h. no-turn _ _ (c .before .before .before .before .before .before .before .before .before .before .before .before .before .before .before .before .before .before .args .it) _ _ _ _ _ _ (λ e. c .before .before .if1 .taken (c .before .before .before .before .loop .inv .counts ∙ e)) k h (c .before .if2 .taken) _ (c .refused .ensures))
 
--- src/lib.rt:195:16
+-- src/lib.rt:202:16
 turns-sub-left : (t : ℕ) → turns-lts.Need-sub-left (
   put-reads.Asked,
   put-reads.Learnt,
@@ -1322,7 +1581,7 @@ turns-sub-left : (t : ℕ) → turns-lts.Need-sub-left (
 ) (turns-at t) turns.Post turns-Inv-loop turns-μ-loop
 turns-sub-left t c = search needs
 
--- src/lib.rt:196:13
+-- src/lib.rt:203:13
 turns-step-requires : (t : ℕ) → turns-lts.Need-step-requires (
   put-reads.Asked,
   put-reads.Learnt,
@@ -1337,7 +1596,7 @@ turns-step-requires : (t : ℕ) → turns-lts.Need-step-requires (
 ) (turns-at t) turns.Post turns-Inv-loop turns-μ-loop
 turns-step-requires t c κs = search needs
 
--- src/lib.rt:199:13
+-- src/lib.rt:206:13
 turns-same-length-4 : (t : ℕ) → turns-lts.Need-same-length-4 (
   put-reads.Asked,
   put-reads.Learnt,
@@ -1353,7 +1612,7 @@ turns-same-length-4 : (t : ℕ) → turns-lts.Need-same-length-4 (
 turns-same-length-4 t c =
     c .before .before .before .before .before .before .before .before .loop .inv .cells-long ∙ c .before .before .before .before .before .before .before .before .before .before .before .before .before .put .kept .0
 
--- src/lib.rt:199:13
+-- src/lib.rt:206:13
 turns-same-length-5 : (t : ℕ) → turns-lts.Need-same-length-5 (
   put-reads.Asked,
   put-reads.Learnt,
@@ -1368,7 +1627,7 @@ turns-same-length-5 : (t : ℕ) → turns-lts.Need-same-length-5 (
 ) (turns-at t) turns.Post turns-Inv-loop turns-μ-loop
 turns-same-length-5 t c = c .before .before .before .before .before .before .before .before .loop .inv .slots-long
 
--- src/lib.rt:199:13
+-- src/lib.rt:206:13
 turns-same-length-6 : (t : ℕ) → turns-lts.Need-same-length-6 (
   put-reads.Asked,
   put-reads.Learnt,
@@ -1383,7 +1642,7 @@ turns-same-length-6 : (t : ℕ) → turns-lts.Need-same-length-6 (
 ) (turns-at t) turns.Post turns-Inv-loop turns-μ-loop
 turns-same-length-6 t c = c .before .before .before .step .kept .0 ∙ c .before .before .before .before .before .before .before .before .loop .inv .trace-long
 
--- src/lib.rt:199:13
+-- src/lib.rt:206:13
 turns-returns-2 : (t : ℕ) → turns-lts.Need-returns-2 (
   put-reads.Asked,
   put-reads.Learnt,
@@ -1401,7 +1660,7 @@ turns-returns-2 t c =
     loop-stops _ _ _ _ _ _ _ _ (c .before .before .before .before .before .before .before .before .loop .inv .turned) (c .before .before .before .before .before .before .before .before .loop .inv .slots-long) _ (c .before .before .before .before .before .before .before .before .before .before .before .before .before .put .ensures) w ρ st fine _ _ _ _ (c .if3 .taken)
       (λ st₁ k h. turn-refused _ _ (c .before .before .before .before .before .before .before .before .before .before .before .before .before .before .before .before .before .before .before .before .before .before .args .it) _ _ _ _ _ _ (λ e. c .before .before .before .before .before .before .if1 .taken (c .before .before .before .before .before .before .before .before .loop .inv .counts ∙ e)) k h (c .before .before .before .before .before .if2 .left) _ _ (c .before .before .before .step .ensures _) (c .if3 .taken))
 
--- src/lib.rt:201:9
+-- src/lib.rt:208:9
 turns-statement-requires : (t : ℕ) → turns-lts.Need-statement-requires (
   put-reads.Asked,
   put-reads.Learnt,
@@ -1417,7 +1676,7 @@ turns-statement-requires : (t : ℕ) → turns-lts.Need-statement-requires (
 turns-statement-requires t c κs =
     (omega (arith, c .before .before .before .before .before .before .before .before .before .before .before .before .before .before .before .before .before .before .before .before .before .before .before .before .before .pre .0, c .before .before .before .before .before .before .before .before .before .before .before .before .before .before .before .before .before .before .before .before .before .before .before .before .before .pre .1 .1), (c .before .before .before .before .before .before .before .before .before .before .before .before .before .before .before .before .before .before .before .before .before .before .before .before .before .pre .1 .0, c .before .before .before .before .before .before .before .before .before .before .before .before .before .before .before .before .before .before .before .before .before .before .before .before .before .pre .1 .2))
 
--- src/lib.rt:204:13
+-- src/lib.rt:211:13
 turns-same-length-7 : (t : ℕ) → turns-lts.Need-same-length-7 (
   put-reads.Asked,
   put-reads.Learnt,
@@ -1433,7 +1692,7 @@ turns-same-length-7 : (t : ℕ) → turns-lts.Need-same-length-7 (
 turns-same-length-7 t c =
     c .before .before .before .before .before .before .before .statement .kept .1 .1 .1 .1 .0 ∙ c .before .before .before .before .before .before .before .before .before .before .before .before .before .before .before .before .before .before .before .loop .inv .cells-long ∙ c .before .before .before .before .before .before .before .before .before .before .before .before .before .before .before .before .before .before .before .before .before .before .before .before .put .kept .0
 
--- src/lib.rt:204:13
+-- src/lib.rt:211:13
 turns-same-length-8 : (t : ℕ) → turns-lts.Need-same-length-8 (
   put-reads.Asked,
   put-reads.Learnt,
@@ -1449,7 +1708,7 @@ turns-same-length-8 : (t : ℕ) → turns-lts.Need-same-length-8 (
 turns-same-length-8 t c =
     c .before .before .before .before .before .before .before .statement .kept .1 .1 .1 .1 .1 .0 ∙ c .before .before .before .before .before .before .before .before .before .before .before .before .before .before .before .before .before .before .before .loop .inv .slots-long
 
--- src/lib.rt:204:13
+-- src/lib.rt:211:13
 turns-same-length-9 : (t : ℕ) → turns-lts.Need-same-length-9 (
   put-reads.Asked,
   put-reads.Learnt,
@@ -1465,7 +1724,7 @@ turns-same-length-9 : (t : ℕ) → turns-lts.Need-same-length-9 (
 turns-same-length-9 t c =
     c .before .before .before .before .before .before .before .statement .kept .1 .1 .1 .1 .1 .1 .0 ∙ c .before .before .before .before .before .before .before .before .before .before .before .before .before .before .step .kept .0 ∙ c .before .before .before .before .before .before .before .before .before .before .before .before .before .before .before .before .before .before .before .loop .inv .trace-long
 
--- src/lib.rt:204:13
+-- src/lib.rt:211:13
 turns-returns-3 : (t : ℕ) → turns-lts.Need-returns-3 (
   put-reads.Asked,
   put-reads.Learnt,
@@ -1484,7 +1743,7 @@ turns-returns-3 t c =
       (λ st₁ k h. body-refused _ _ (c .before .before .before .before .before .before .before .before .before .before .before .before .before .before .before .before .before .before .before .before .before .before .before .before .before .before .before .before .before .before .before .before .before .args .it) _ _ _ _ _ _ (λ e. c .before .before .before .before .before .before .before .before .before .before .before .before .before .before .before .before .before .if1 .taken (c .before .before .before .before .before .before .before .before .before .before .before .before .before .before .before .before .before .before .before .loop .inv .counts ∙ e)) k h (c .before .before .before .before .before .before .before .before .before .before .before .before .before .before .before .before .if2 .left) _ _ (c .before .before .before .before .before .before .before .before .before .before .before .before .before .before .step .ensures _) (c .before .before .before .before .before .before .before .before .before .before .before .if3 .left)
         _ _ _ _ (c .before .before .before .before .before .before .before .statement .ensures w ρ st₁ fine) (c .if4 .taken))
 
--- src/lib.rt:206:9
+-- src/lib.rt:213:9
 turns-cell-requires-2 : (t : ℕ) → turns-lts.Need-cell-requires-2 (
   put-reads.Asked,
   put-reads.Learnt,
@@ -1499,7 +1758,7 @@ turns-cell-requires-2 : (t : ℕ) → turns-lts.Need-cell-requires-2 (
 ) (turns-at t) turns.Post turns-Inv-loop turns-μ-loop
 turns-cell-requires-2 t c κs = search needs
 
--- src/lib.rt:208:13
+-- src/lib.rt:215:13
 turns-refused-requires-2 : (t : ℕ) → turns-lts.Need-refused-requires-2 (
   put-reads.Asked,
   put-reads.Learnt,
@@ -1514,7 +1773,7 @@ turns-refused-requires-2 : (t : ℕ) → turns-lts.Need-refused-requires-2 (
 ) (turns-at t) turns.Post turns-Inv-loop turns-μ-loop
 turns-refused-requires-2 t c κs = search needs
 
--- src/lib.rt:208:13
+-- src/lib.rt:215:13
 turns-same-length-10 : (t : ℕ) → turns-lts.Need-same-length-10 (
   put-reads.Asked,
   put-reads.Learnt,
@@ -1530,7 +1789,7 @@ turns-same-length-10 : (t : ℕ) → turns-lts.Need-same-length-10 (
 turns-same-length-10 t c =
     c .before .before .before .before .before .before .before .before .before .before .before .before .statement .kept .1 .1 .1 .1 .0 ∙ c .before .before .before .before .before .before .before .before .before .before .before .before .before .before .before .before .before .before .before .before .before .before .before .before .loop .inv .cells-long ∙ c .before .before .before .before .before .before .before .before .before .before .before .before .before .before .before .before .before .before .before .before .before .before .before .before .before .before .before .before .before .put .kept .0
 
--- src/lib.rt:208:13
+-- src/lib.rt:215:13
 turns-same-length-11 : (t : ℕ) → turns-lts.Need-same-length-11 (
   put-reads.Asked,
   put-reads.Learnt,
@@ -1546,7 +1805,7 @@ turns-same-length-11 : (t : ℕ) → turns-lts.Need-same-length-11 (
 turns-same-length-11 t c =
     c .before .before .before .before .before .before .before .before .before .before .before .before .statement .kept .1 .1 .1 .1 .1 .0 ∙ c .before .before .before .before .before .before .before .before .before .before .before .before .before .before .before .before .before .before .before .before .before .before .before .before .loop .inv .slots-long
 
--- src/lib.rt:208:13
+-- src/lib.rt:215:13
 turns-same-length-12 : (t : ℕ) → turns-lts.Need-same-length-12 (
   put-reads.Asked,
   put-reads.Learnt,
@@ -1562,7 +1821,7 @@ turns-same-length-12 : (t : ℕ) → turns-lts.Need-same-length-12 (
 turns-same-length-12 t c =
     c .before .before .before .before .before .before .before .before .before .before .before .before .statement .kept .1 .1 .1 .1 .1 .1 .0 ∙ c .before .before .before .before .before .before .before .before .before .before .before .before .before .before .before .before .before .before .before .step .kept .0 ∙ c .before .before .before .before .before .before .before .before .before .before .before .before .before .before .before .before .before .before .before .before .before .before .before .before .loop .inv .trace-long
 
--- src/lib.rt:208:13
+-- src/lib.rt:215:13
 turns-returns-4 : (t : ℕ) → turns-lts.Need-returns-4 (
   put-reads.Asked,
   put-reads.Learnt,
@@ -1582,7 +1841,7 @@ turns-returns-4 t c =
       (λ st₁ k h. met-first _ _ (c .before .before .before .before .before .before .before .before .before .before .before .before .before .before .before .before .before .before .before .before .before .before .before .before .before .before .before .before .before .before .before .before .before .before .before .before .before .before .args .it) _ _ _ _ _ _ (λ e. c .before .before .before .before .before .before .before .before .before .before .before .before .before .before .before .before .before .before .before .before .before .before .if1 .taken (c .before .before .before .before .before .before .before .before .before .before .before .before .before .before .before .before .before .before .before .before .before .before .before .before .loop .inv .counts ∙ e)) k h (c .before .before .before .before .before .before .before .before .before .before .before .before .before .before .before .before .before .before .before .before .before .if2 .left) _ _ (c .before .before .before .before .before .before .before .before .before .before .before .before .before .before .before .before .before .before .before .step .ensures _) (c .before .before .before .before .before .before .before .before .before .before .before .before .before .before .before .before .if3 .left)
         _ _ _ _ (c .before .before .before .before .before .before .before .before .before .before .before .before .statement .ensures w ρ st₁ fine) (c .before .before .before .before .before .if4 .left) (sym (c .before .before .before .cell2 .ensures) ∙ c .before .if5 .taken) _ (c .refused2 .ensures))
 
--- src/lib.rt:191:5
+-- src/lib.rt:198:5
 turns-loop-less : (t : ℕ) → turns-lts.Need-loop-less (
   put-reads.Asked,
   put-reads.Learnt,
@@ -1598,7 +1857,7 @@ turns-loop-less : (t : ℕ) → turns-lts.Need-loop-less (
 turns-loop-less t c =
     omega (arith, c .before .before .before .before .before .before .before .before .before .before .before .before .before .before .before .before .before .before .before .before .if2 .left)
 
--- src/lib.rt:191:5
+-- src/lib.rt:198:5
 turns-loop-again : (t : ℕ) → turns-lts.Need-loop-again (
   put-reads.Asked,
   put-reads.Learnt,
@@ -1620,7 +1879,7 @@ turns-loop-again t c =
       turned = turned-on _ _ _ _ _ _ _ _ (c .before .before .before .before .before .before .before .before .before .before .before .before .before .before .before .before .before .before .before .before .before .before .before .loop .inv .turned) (c .before .before .before .before .before .before .before .before .before .before .before .before .before .before .before .before .before .before .before .before .before .before .before .loop .inv .slots-long) (λ e. c .before .before .before .before .before .before .before .before .before .before .before .before .before .before .before .before .before .before .before .before .before .if1 .taken (c .before .before .before .before .before .before .before .before .before .before .before .before .before .before .before .before .before .before .before .before .before .before .before .loop .inv .counts ∙ e)) (c .before .before .before .before .before .before .before .before .before .before .before .before .before .before .before .before .before .before .before .before .if2 .left)
         _ _ (c .before .before .before .before .before .before .before .before .before .before .before .before .before .before .before .before .before .before .step .ensures _) (c .before .before .before .before .before .before .before .before .before .before .before .before .before .before .before .if3 .left) _ _ _ _ (c .before .before .before .before .before .before .before .before .before .before .before .statement .ensures) (c .before .before .before .before .if4 .left) (λ e. c .if5 .left (c .before .before .cell2 .ensures ∙ e)) }
 
--- src/lib.rt:211:5
+-- src/lib.rt:218:5
 turns-put-requires-2 : (t : ℕ) → turns-lts.Need-put-requires-2 (
   put-reads.Asked,
   put-reads.Learnt,
@@ -1635,7 +1894,7 @@ turns-put-requires-2 : (t : ℕ) → turns-lts.Need-put-requires-2 (
 ) (turns-at t) turns.Post turns-Inv-loop turns-μ-loop
 turns-put-requires-2 t c κs = search needs
 
--- src/lib.rt:182:1
+-- src/lib.rt:189:1
 turns-same-length-13 : (t : ℕ) → turns-lts.Need-same-length-13 (
   put-reads.Asked,
   put-reads.Learnt,
@@ -1651,7 +1910,7 @@ turns-same-length-13 : (t : ℕ) → turns-lts.Need-same-length-13 (
 turns-same-length-13 t c =
     c .before .before .put2 .kept .0 ∙ c .before .before .before .before .before .before .loop .inv .cells-long ∙ c .before .before .before .before .before .before .before .before .before .before .before .put .kept .0
 
--- src/lib.rt:182:1
+-- src/lib.rt:189:1
 turns-same-length-14 : (t : ℕ) → turns-lts.Need-same-length-14 (
   put-reads.Asked,
   put-reads.Learnt,
@@ -1666,7 +1925,7 @@ turns-same-length-14 : (t : ℕ) → turns-lts.Need-same-length-14 (
 ) (turns-at t) turns.Post turns-Inv-loop turns-μ-loop
 turns-same-length-14 t c = c .before .before .before .before .before .before .loop .inv .slots-long
 
--- src/lib.rt:182:1
+-- src/lib.rt:189:1
 turns-same-length-15 : (t : ℕ) → turns-lts.Need-same-length-15 (
   put-reads.Asked,
   put-reads.Learnt,
@@ -1681,7 +1940,7 @@ turns-same-length-15 : (t : ℕ) → turns-lts.Need-same-length-15 (
 ) (turns-at t) turns.Post turns-Inv-loop turns-μ-loop
 turns-same-length-15 t c = c .before .before .before .before .before .before .loop .inv .trace-long
 
--- src/lib.rt:182:1
+-- src/lib.rt:189:1
 turns-returns-5 : (t : ℕ) → turns-lts.Need-returns-5 (
   put-reads.Asked,
   put-reads.Learnt,
@@ -1729,6 +1988,8 @@ pub +called+statement+statements+turns-spec : {M : Type 1} → statement M
     (λ t. statement-lts.spec (
       begun-reads.Asked,
       begun-reads.Learnt,
+      kept-reads.Asked,
+      kept-reads.Learnt,
       statement-below t,
       statement′.Post,
       turns-below t,
@@ -1744,19 +2005,25 @@ pub +called+statement+statements+turns-spec : {M : Type 1} → statement M
     statement′.Post
     (statement-begun-requires t)
     (statement-enum-known-rest t)
+    (statement-kept-requires t)
     (statement-enum-known-rest-2 t)
     (statement-statement-requires t)
+    (statement-kept-requires-2 t)
     (statement-enum-known-rest-3 t)
     (statement-turns-requires t)
+    (statement-kept-requires-3 t)
     (statement-enum-known-rest-4 t)
     (statement-called-requires t)
+    (statement-kept-requires-4 t)
     (statement-enum-known-rest-5 t)
     (statement-statements-requires t)
+    (statement-kept-requires-5 t)
     (statement-same-length t)
     (statement-same-length-2 t)
     (statement-same-length-3 t)
     (statement-returns t)
     (statement-block-end-requires t)
+    (statement-kept-requires-6 t)
     (statement-same-length-4 t)
     (statement-same-length-5 t)
     (statement-same-length-6 t)
@@ -1782,6 +2049,8 @@ pub +called+statement+statements+turns-spec : {M : Type 1} → statement M
       next-at-reads.Learnt,
       statements-below t,
       statements.Post,
+      kept-reads.Asked,
+      kept-reads.Learnt,
       statement-below t,
       statement′.Post,
     )
@@ -1790,21 +2059,25 @@ pub +called+statement+statements+turns-spec : {M : Type 1} → statement M
     (statements-returns t)
     (statements-next-at-requires t)
     (statements-statements-requires t)
+    (statements-kept-requires t)
     (statements-same-length t)
     (statements-same-length-2 t)
     (statements-same-length-3 t)
     (statements-returns-2 t)
     (statements-statement-requires t)
+    (statements-kept-requires-2 t)
     (statements-same-length-4 t)
     (statements-same-length-5 t)
     (statements-same-length-6 t)
     (statements-returns-3 t)
     (statements-statement-requires-2 t)
+    (statements-kept-requires-3 t)
     (statements-same-length-7 t)
     (statements-same-length-8 t)
     (statements-same-length-9 t)
     (statements-returns-4 t)
     (statements-statements-requires-2 t)
+    (statements-kept-requires-4 t)
     (statements-same-length-10 t)
     (statements-same-length-11 t)
     (statements-same-length-12 t)
