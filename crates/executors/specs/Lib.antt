@@ -8,3 +8,4 @@ pub mod Loop
 pub mod Leaves
 pub mod Calls
 pub mod Promises
+pub mod Forward

@@ -168,8 +168,8 @@ fn statements(nodes: &[u8], procedures: &[u8], variables: &[u8], constants: &[u8
     if n == 65535 {
         return run;
     }
-    let next = records::next_at(&nodes[..], n);
     if inverse {
+        let next = records::next_at(&nodes[..], n);
         let later = statements(&nodes[..], &procedures[..], &variables[..], &constants[..], cells, slots, trace, inverse, p, next, run);
         let refusal = later.number;
         if refusal != 0 {
@@ -177,12 +177,17 @@ fn statements(nodes: &[u8], procedures: &[u8], variables: &[u8], constants: &[u8
         }
         return kept(statement(&nodes[..], &procedures[..], &variables[..], &constants[..], cells, slots, trace, inverse, p, n, later));
     }
-    let one = statement(&nodes[..], &procedures[..], &variables[..], &constants[..], cells, slots, trace, inverse, p, n, run);
-    let trouble = one.number;
-    if trouble != 0 {
-        return kept(one);
+    let mut done = run;
+    let mut at = n;
+    while at != 65535 {
+        done = kept(statement(&nodes[..], &procedures[..], &variables[..], &constants[..], cells, slots, trace, inverse, p, at, done));
+        let trouble = done.number;
+        if trouble != 0 {
+            return kept(done);
+        }
+        at = records::next_at(&nodes[..], at);
     }
-    kept(statements(&nodes[..], &procedures[..], &variables[..], &constants[..], cells, slots, trace, inverse, p, next, one))
+    kept(done)
 }
 
 // The turns of a for whose bounds are known: while the counter differs from the second. There are never more than steps left.

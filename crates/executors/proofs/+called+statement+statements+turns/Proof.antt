@@ -1,5 +1,6 @@
--- The cycle of executors. What falls: the procedure's number, then what lies behind the node; a for's turns are counted down from the steps that are left.
--- Each way out of a member is one law of specs/: a statement's rest (Doing), a list (Lists), the turns of a for (Loop), a call (Calls).
+-- The cycle of executors. What falls: the procedure's number, then what lies behind the node; a list forward goes to larger nodes,
+-- and a for's turns are counted down from the steps that are left.
+-- Each way out of a member is one law of specs/: a statement's rest (Doing), a list (Lists, Forward), the turns of a for (Loop), a call (Calls).
 use mathlib.Core.Path.{refl, sym, ap, _∙_}
 use native.Mathlib.Omega.{arith}
 use borrow.Author.Needs.{needs}
@@ -8,10 +9,11 @@ use Rattle.expressions.specs.Relations.{directionOf}
 use Rattle.executors.specs.Doing.{finished, led, ran-same}
 use Rattle.executors.specs.Ways.{statementRank, statementsRank, turnsRank, calledRank}
 use Rattle.executors.specs.Nodes.{next-behind, next-chain}
-use Rattle.executors.specs.Lists.{both-refused, both-on, none, fine-first, fine-rest, list-forward, list-inverse, end-ran}
+use Rattle.executors.specs.Lists.{both-refused, both-on, none, fine-first, fine-rest, list-inverse, end-ran}
+use Rattle.executors.specs.Forward.{Follows, follows-starts, follows-ends, follows-stops, followed-on}
 use Rattle.executors.specs.Loop.{Keeps, turned-starts, turned-on, loop-stops, loop-ends, no-turn, turn-refused, body-refused, met-first}
 use Rattle.executors.specs.Calls.{rows-below, call-refused, call-on}
-use Prim.Native.Nat.{ℕ, _<_}
+use Prim.Native.Nat.{ℕ, _-_, _<_}
 use borrow.Fn.Kinds.{In}
 use borrow.Fn.PlainCycle.{Measures, is, falls, and}
 use Rattle.executors.proofs.called.Reads as called
@@ -78,7 +80,7 @@ turns-at t = and 7 turns-kinds.ps (is 7 turns-kinds.ps μ-turns t) turns.Pre
 abbrev turns-below : ℕ → In 7 turns-kinds.ps
 turns-below t = and 7 turns-kinds.ps (falls 7 turns-kinds.ps _<_ μ-turns t) turns.Pre
 
--- src/lib.rt:229:9
+-- src/lib.rt:234:9
 called-refused-requires : (t : ℕ) → called-lts.Need-refused-requires (
   refused-reads.Asked,
   refused-reads.Learnt,
@@ -91,7 +93,7 @@ called-refused-requires : (t : ℕ) → called-lts.Need-refused-requires (
 ) (called-at t) called.Post
 called-refused-requires t c κs = search needs
 
--- src/lib.rt:229:9
+-- src/lib.rt:234:9
 called-returns : (t : ℕ) → called-lts.Need-returns (
   refused-reads.Asked,
   refused-reads.Learnt,
@@ -104,7 +106,7 @@ called-returns : (t : ℕ) → called-lts.Need-returns (
 ) (called-at t) called.Post
 called-returns t c = λ w ρ st fine. absurd (omega (arith, fine .smaller, c .before .if1 .taken))
 
--- src/lib.rt:231:9
+-- src/lib.rt:236:9
 called-procedure-at-requires : (t : ℕ) → called-lts.Need-procedure-at-requires (
   refused-reads.Asked,
   refused-reads.Learnt,
@@ -117,7 +119,7 @@ called-procedure-at-requires : (t : ℕ) → called-lts.Need-procedure-at-requir
 ) (called-at t) called.Post
 called-procedure-at-requires t c κs = search needs
 
--- src/lib.rt:232:17
+-- src/lib.rt:237:17
 called-cast-first : (t : ℕ) → called-lts.Need-cast-first (
   refused-reads.Asked,
   refused-reads.Learnt,
@@ -130,7 +132,7 @@ called-cast-first : (t : ℕ) → called-lts.Need-cast-first (
 ) (called-at t) called.Post
 called-cast-first t c = search needs
 
--- src/lib.rt:233:9
+-- src/lib.rt:238:9
 called-arguments-requires : (t : ℕ) → called-lts.Need-arguments-requires (
   refused-reads.Asked,
   refused-reads.Learnt,
@@ -144,7 +146,7 @@ called-arguments-requires : (t : ℕ) → called-lts.Need-arguments-requires (
 called-arguments-requires t c κs =
     (c .before .before .before .before .before .before .before .before .before .before .before .before .before .pre .1 .0, omega (arith, c .before .before .before .before .procedure-at .ok))
 
--- src/lib.rt:236:9
+-- src/lib.rt:241:9
 called-same-length : (t : ℕ) → called-lts.Need-same-length (
   refused-reads.Asked,
   refused-reads.Learnt,
@@ -157,7 +159,7 @@ called-same-length : (t : ℕ) → called-lts.Need-same-length (
 ) (called-at t) called.Post
 called-same-length t c = search needs
 
--- src/lib.rt:236:9
+-- src/lib.rt:241:9
 called-same-length-2 : (t : ℕ) → called-lts.Need-same-length-2 (
   refused-reads.Asked,
   refused-reads.Learnt,
@@ -170,7 +172,7 @@ called-same-length-2 : (t : ℕ) → called-lts.Need-same-length-2 (
 ) (called-at t) called.Post
 called-same-length-2 t c = search needs
 
--- src/lib.rt:236:9
+-- src/lib.rt:241:9
 called-same-length-3 : (t : ℕ) → called-lts.Need-same-length-3 (
   refused-reads.Asked,
   refused-reads.Learnt,
@@ -183,7 +185,7 @@ called-same-length-3 : (t : ℕ) → called-lts.Need-same-length-3 (
 ) (called-at t) called.Post
 called-same-length-3 t c = search needs
 
--- src/lib.rt:236:9
+-- src/lib.rt:241:9
 called-returns-2 : (t : ℕ) → called-lts.Need-returns-2 (
   refused-reads.Asked,
   refused-reads.Learnt,
@@ -200,7 +202,7 @@ called-returns-2 t c =
     let a = c .before .before .before .before .before .arguments .ensures .1 (w .h) (w .s) (w .program) ρ _ _ (st .agree) (fine .within) (rows-below w st _ _ fine _ own) in
     call-refused w st _ _ fine _ own _ (a .0) _ _ _ _ _ (c .before .before .before .before .before .arguments .ensures .0) (a .1) _ (c .if2 .taken)
 
--- src/lib.rt:238:5
+-- src/lib.rt:243:5
 called-statement-requires : (t : ℕ) → called-lts.Need-statement-requires (
   refused-reads.Asked,
   refused-reads.Learnt,
@@ -214,7 +216,7 @@ called-statement-requires : (t : ℕ) → called-lts.Need-statement-requires (
 called-statement-requires t c κs =
     (omega (arith, c .before .before .before .before .before .before .before .before .before .before .before .before .before .before .before .before .before .before .before .before .before .before .pre .0, c .before .before .before .before .before .before .before .before .before .before .before .before .before .before .if1 .left), (rw (ap (λ r. r .body) (c .before .before .before .before .before .before .before .before .before .before .before .before .before .procedure-at .ensures)) (c .before .before .before .before .before .before .before .before .before .before .before .before .before .before .before .before .before .before .before .before .before .before .pre .1 .1 _ (c .before .before .before .before .before .before .before .before .before .before .before .before .before .before .if1 .left)), λ r l. c .before .before .before .before .before .before .before .before .before .before .before .before .before .before .before .before .before .before .before .before .before .before .pre .1 .1 r (omega (arith, l, c .before .before .before .before .before .before .before .before .before .before .before .before .before .before .if1 .left))))
 
--- src/lib.rt:223:1
+-- src/lib.rt:228:1
 called-same-length-4 : (t : ℕ) → called-lts.Need-same-length-4 (
   refused-reads.Asked,
   refused-reads.Learnt,
@@ -227,7 +229,7 @@ called-same-length-4 : (t : ℕ) → called-lts.Need-same-length-4 (
 ) (called-at t) called.Post
 called-same-length-4 t c = search needs
 
--- src/lib.rt:223:1
+-- src/lib.rt:228:1
 called-same-length-5 : (t : ℕ) → called-lts.Need-same-length-5 (
   refused-reads.Asked,
   refused-reads.Learnt,
@@ -240,7 +242,7 @@ called-same-length-5 : (t : ℕ) → called-lts.Need-same-length-5 (
 ) (called-at t) called.Post
 called-same-length-5 t c = search needs
 
--- src/lib.rt:223:1
+-- src/lib.rt:228:1
 called-same-length-6 : (t : ℕ) → called-lts.Need-same-length-6 (
   refused-reads.Asked,
   refused-reads.Learnt,
@@ -253,7 +255,7 @@ called-same-length-6 : (t : ℕ) → called-lts.Need-same-length-6 (
 ) (called-at t) called.Post
 called-same-length-6 t c = search needs
 
--- src/lib.rt:223:1
+-- src/lib.rt:228:1
 called-returns-3 : (t : ℕ) → called-lts.Need-returns-3 (
   refused-reads.Asked,
   refused-reads.Learnt,
@@ -1071,6 +1073,14 @@ statement-returns-6 t c =
     led (o .1) (both-on w st _ _ _ _ _ _ _ _ _ (c .before .before .before .before .before .before .before .before .before .before .before .statements .ensures w ρ st (o .0 .1)) (c .before .before .before .before .if1 .left) (c .before .before .before .before .before .before .before .before .before .before .before .statements .kept .1 .1 .1 .1 .1 .0) _ _ _ _
       (λ st₁. end-ran w st₁ _ _ _ (o .0 .0) _ _ _ _ (c .before .block-end .ensures _))))
 
+abbrev statements-Inv-loop : statements-lts.InvT-loop
+statements-Inv-loop nodes procedures variables constants cells₀ slots₀ trace₀ inverse p n done₀ at₀ cells slots trace done at =
+    Follows nodes procedures variables constants (directionOf inverse) p n cells₀ slots₀ trace₀ done₀ at cells slots trace done
+
+abbrev statements-μ-loop : statements-lts.MeasureT-loop
+statements-μ-loop nodes procedures variables constants cells₀ slots₀ trace₀ inverse p n done₀ at₀ cells slots trace done at =
+    65535 - at
+
 -- src/lib.rt:169:9
 statements-returns : (t : ℕ) → statements-lts.Need-returns (
   next-at-reads.Asked,
@@ -1081,10 +1091,10 @@ statements-returns : (t : ℕ) → statements-lts.Need-returns (
   kept-reads.Learnt,
   statement-below t,
   statement′.Post,
-) (statements-at t) statements.Post
+) (statements-at t) statements.Post statements-Inv-loop statements-μ-loop
 statements-returns t c = λ w ρ st fine. none w _ _ ρ _ (c .if1 .taken) _ _ _ _
 
--- src/lib.rt:171:9
+-- src/lib.rt:172:13
 statements-next-at-requires : (t : ℕ) → statements-lts.Need-next-at-requires (
   next-at-reads.Asked,
   next-at-reads.Learnt,
@@ -1094,7 +1104,7 @@ statements-next-at-requires : (t : ℕ) → statements-lts.Need-next-at-requires
   kept-reads.Learnt,
   statement-below t,
   statement′.Post,
-) (statements-at t) statements.Post
+) (statements-at t) statements.Post statements-Inv-loop statements-μ-loop
 statements-next-at-requires t c κs = search needs
 
 -- src/lib.rt:173:13
@@ -1107,10 +1117,10 @@ statements-statements-requires : (t : ℕ) → statements-lts.Need-statements-re
   kept-reads.Learnt,
   statement-below t,
   statement′.Post,
-) (statements-at t) statements.Post
+) (statements-at t) statements.Post statements-Inv-loop statements-μ-loop
 statements-statements-requires t c κs =
     let sn = c .before .before .before .before .before .before .before .before .before .before .before .before .before .pre .1 .0 (c .before .before .before .before .before .if1 .left) in
-    (omega (arith, next-behind sn, c .before .before .before .before .next-at .ensures, c .before .before .before .before .before .before .before .before .before .before .before .before .before .pre .0, sn .inside, sn .code .few), (rw (c .before .before .before .before .next-at .ensures) (next-chain sn), c .before .before .before .before .before .before .before .before .before .before .before .before .before .pre .1 .1))
+    (omega (arith, next-behind sn, c .before .before .before .next-at .ensures, c .before .before .before .before .before .before .before .before .before .before .before .before .before .pre .0, sn .inside, sn .code .few), (rw (c .before .before .before .next-at .ensures) (next-chain sn), c .before .before .before .before .before .before .before .before .before .before .before .before .before .pre .1 .1))
 
 -- src/lib.rt:176:13
 statements-kept-requires : (t : ℕ) → statements-lts.Need-kept-requires (
@@ -1122,7 +1132,7 @@ statements-kept-requires : (t : ℕ) → statements-lts.Need-kept-requires (
   kept-reads.Learnt,
   statement-below t,
   statement′.Post,
-) (statements-at t) statements.Post
+) (statements-at t) statements.Post statements-Inv-loop statements-μ-loop
 statements-kept-requires t c κs = search needs
 
 -- src/lib.rt:176:13
@@ -1135,7 +1145,7 @@ statements-same-length : (t : ℕ) → statements-lts.Need-same-length (
   kept-reads.Learnt,
   statement-below t,
   statement′.Post,
-) (statements-at t) statements.Post
+) (statements-at t) statements.Post statements-Inv-loop statements-μ-loop
 statements-same-length t c = search needs
 
 -- src/lib.rt:176:13
@@ -1148,7 +1158,7 @@ statements-same-length-2 : (t : ℕ) → statements-lts.Need-same-length-2 (
   kept-reads.Learnt,
   statement-below t,
   statement′.Post,
-) (statements-at t) statements.Post
+) (statements-at t) statements.Post statements-Inv-loop statements-μ-loop
 statements-same-length-2 t c = search needs
 
 -- src/lib.rt:176:13
@@ -1161,7 +1171,7 @@ statements-same-length-3 : (t : ℕ) → statements-lts.Need-same-length-3 (
   kept-reads.Learnt,
   statement-below t,
   statement′.Post,
-) (statements-at t) statements.Post
+) (statements-at t) statements.Post statements-Inv-loop statements-μ-loop
 statements-same-length-3 t c = search needs
 
 -- src/lib.rt:176:13
@@ -1174,12 +1184,12 @@ statements-returns-2 : (t : ℕ) → statements-lts.Need-returns-2 (
   kept-reads.Learnt,
   statement-below t,
   statement′.Post,
-) (statements-at t) statements.Post
+) (statements-at t) statements.Post statements-Inv-loop statements-μ-loop
 statements-returns-2 t c =
     rw (c .kept .ensures) (λ w ρ st fine.
     let sn = c .before .before .before .before .before .before .before .before .before .before .before .before .before .before .before .before .before .before .before .before .before .before .pre .1 .0 (c .before .before .before .before .before .before .before .before .before .before .before .before .before .before .if1 .left) in
-    ran-same (list-inverse w sn _ (c .before .before .before .before .before .before .before .before .before .before .before .before .before .before .before .before .before .before .before .before .before .before .args .inverse) ρ _ (c .before .before .before .before .before .before .before .before .before .before .before .before .before .next-at .ensures) (c .before .before .before .before .before .before .before .before .before .before .before .before .if2 .taken))
-      (both-refused w st _ _ _ _ _ _ _ _ _ (c .before .before .before .before .before .before .before .before .statements .ensures w ρ st (fine-rest w sn _ fine _ (c .before .before .before .before .before .before .before .before .before .before .before .before .before .next-at .ensures))) (c .before .if3 .taken)))
+    ran-same (list-inverse w sn _ (c .before .before .before .before .before .before .before .before .before .before .before .before .before .before .before .before .before .before .before .before .before .before .args .inverse) ρ _ (c .before .before .before .before .before .before .before .before .before .before .before .before .next-at .ensures) (c .before .before .before .before .before .before .before .before .before .before .before .before .before .if2 .taken))
+      (both-refused w st _ _ _ _ _ _ _ _ _ (c .before .before .before .before .before .before .before .before .statements .ensures w ρ st (fine-rest w sn _ fine _ (c .before .before .before .before .before .before .before .before .before .before .before .before .next-at .ensures))) (c .before .if3 .taken)))
 
 -- src/lib.rt:178:21
 statements-statement-requires : (t : ℕ) → statements-lts.Need-statement-requires (
@@ -1191,7 +1201,7 @@ statements-statement-requires : (t : ℕ) → statements-lts.Need-statement-requ
   kept-reads.Learnt,
   statement-below t,
   statement′.Post,
-) (statements-at t) statements.Post
+) (statements-at t) statements.Post statements-Inv-loop statements-μ-loop
 statements-statement-requires t c κs =
     (omega (arith, c .before .before .before .before .before .before .before .before .before .before .before .before .before .before .before .before .before .before .before .before .before .before .before .before .pre .0), (c .before .before .before .before .before .before .before .before .before .before .before .before .before .before .before .before .before .before .before .before .before .before .before .before .pre .1 .0 (c .before .before .before .before .before .before .before .before .before .before .before .before .before .before .before .before .if1 .left), c .before .before .before .before .before .before .before .before .before .before .before .before .before .before .before .before .before .before .before .before .before .before .before .before .pre .1 .1))
 
@@ -1205,7 +1215,7 @@ statements-kept-requires-2 : (t : ℕ) → statements-lts.Need-kept-requires-2 (
   kept-reads.Learnt,
   statement-below t,
   statement′.Post,
-) (statements-at t) statements.Post
+) (statements-at t) statements.Post statements-Inv-loop statements-μ-loop
 statements-kept-requires-2 t c κs = search needs
 
 -- src/lib.rt:178:9
@@ -1218,7 +1228,7 @@ statements-same-length-4 : (t : ℕ) → statements-lts.Need-same-length-4 (
   kept-reads.Learnt,
   statement-below t,
   statement′.Post,
-) (statements-at t) statements.Post
+) (statements-at t) statements.Post statements-Inv-loop statements-μ-loop
 statements-same-length-4 t c = search needs
 
 -- src/lib.rt:178:9
@@ -1231,7 +1241,7 @@ statements-same-length-5 : (t : ℕ) → statements-lts.Need-same-length-5 (
   kept-reads.Learnt,
   statement-below t,
   statement′.Post,
-) (statements-at t) statements.Post
+) (statements-at t) statements.Post statements-Inv-loop statements-μ-loop
 statements-same-length-5 t c = search needs
 
 -- src/lib.rt:178:9
@@ -1244,7 +1254,7 @@ statements-same-length-6 : (t : ℕ) → statements-lts.Need-same-length-6 (
   kept-reads.Learnt,
   statement-below t,
   statement′.Post,
-) (statements-at t) statements.Post
+) (statements-at t) statements.Post statements-Inv-loop statements-μ-loop
 statements-same-length-6 t c = search needs
 
 -- src/lib.rt:178:9
@@ -1257,15 +1267,28 @@ statements-returns-3 : (t : ℕ) → statements-lts.Need-returns-3 (
   kept-reads.Learnt,
   statement-below t,
   statement′.Post,
-) (statements-at t) statements.Post
+) (statements-at t) statements.Post statements-Inv-loop statements-μ-loop
 statements-returns-3 t c =
     rw (c .kept2 .ensures) (λ w ρ st fine.
     let sn = c .before .before .before .before .before .before .before .before .before .before .before .before .before .before .before .before .before .before .before .before .before .before .before .before .before .before .before .before .before .before .before .before .pre .1 .0 (c .before .before .before .before .before .before .before .before .before .before .before .before .before .before .before .before .before .before .before .before .before .before .before .before .if1 .left) in
-    ran-same (list-inverse w sn _ (c .before .before .before .before .before .before .before .before .before .before .before .before .before .before .before .before .before .before .before .before .before .before .before .before .before .before .before .before .before .before .before .before .args .inverse) ρ _ (c .before .before .before .before .before .before .before .before .before .before .before .before .before .before .before .before .before .before .before .before .before .before .before .next-at .ensures) (c .before .before .before .before .before .before .before .before .before .before .before .before .before .before .before .before .before .before .before .before .before .before .if2 .taken))
-      (both-on w st _ _ _ _ _ _ _ _ _ (c .before .before .before .before .before .before .before .before .before .before .before .before .before .before .before .before .before .before .statements .ensures w ρ st (fine-rest w sn _ fine _ (c .before .before .before .before .before .before .before .before .before .before .before .before .before .before .before .before .before .before .before .before .before .before .before .next-at .ensures))) (c .before .before .before .before .before .before .before .before .before .before .before .if3 .left)
+    ran-same (list-inverse w sn _ (c .before .before .before .before .before .before .before .before .before .before .before .before .before .before .before .before .before .before .before .before .before .before .before .before .before .before .before .before .before .before .before .before .args .inverse) ρ _ (c .before .before .before .before .before .before .before .before .before .before .before .before .before .before .before .before .before .before .before .before .before .before .next-at .ensures) (c .before .before .before .before .before .before .before .before .before .before .before .before .before .before .before .before .before .before .before .before .before .before .before .if2 .taken))
+      (both-on w st _ _ _ _ _ _ _ _ _ (c .before .before .before .before .before .before .before .before .before .before .before .before .before .before .before .before .before .before .statements .ensures w ρ st (fine-rest w sn _ fine _ (c .before .before .before .before .before .before .before .before .before .before .before .before .before .before .before .before .before .before .before .before .before .before .next-at .ensures))) (c .before .before .before .before .before .before .before .before .before .before .before .if3 .left)
         (c .before .before .before .before .before .before .before .before .before .before .before .before .before .before .before .before .before .before .statements .kept .1 .1 .1 .1 .1 .0) _ _ _ _ (λ st₁. c .before .before .before .before .before .before .before .statement .ensures w ρ st₁ (fine-first w sn _ fine))))
 
--- src/lib.rt:180:9
+-- src/lib.rt:182:5
+statements-loop-holds : (t : ℕ) → statements-lts.Need-loop-holds (
+  next-at-reads.Asked,
+  next-at-reads.Learnt,
+  statements-below t,
+  statements.Post,
+  kept-reads.Asked,
+  kept-reads.Learnt,
+  statement-below t,
+  statement′.Post,
+) (statements-at t) statements.Post statements-Inv-loop statements-μ-loop
+statements-loop-holds t c = follows-starts _ _ _ _ _ _ _ (c .before .before .before .before .before .before .before .before .before .pre .1 .0)
+
+-- src/lib.rt:183:21
 statements-statement-requires-2 : (t : ℕ) → statements-lts.Need-statement-requires-2 (
   next-at-reads.Asked,
   next-at-reads.Learnt,
@@ -1275,9 +1298,10 @@ statements-statement-requires-2 : (t : ℕ) → statements-lts.Need-statement-re
   kept-reads.Learnt,
   statement-below t,
   statement′.Post,
-) (statements-at t) statements.Post
+) (statements-at t) statements.Post statements-Inv-loop statements-μ-loop
 statements-statement-requires-2 t c κs =
-    (omega (arith, c .before .before .before .before .before .before .before .before .before .before .before .before .before .pre .0), (c .before .before .before .before .before .before .before .before .before .before .before .before .before .pre .1 .0 (c .before .before .before .before .before .if1 .left), c .before .before .before .before .before .before .before .before .before .before .before .before .before .pre .1 .1))
+    let sm = c .before .before .before .before .loop .inv .chain (c .before .before .before .loop-test .taken) in
+    (omega (arith, c .before .before .before .before .before .before .before .before .before .before .before .before .before .before .pre .0, c .before .before .before .before .loop .inv .onward, sm .inside, sm .code .few), (sm, c .before .before .before .before .before .before .before .before .before .before .before .before .before .before .pre .1 .1))
 
 -- src/lib.rt:183:9
 statements-kept-requires-3 : (t : ℕ) → statements-lts.Need-kept-requires-3 (
@@ -1289,81 +1313,10 @@ statements-kept-requires-3 : (t : ℕ) → statements-lts.Need-kept-requires-3 (
   kept-reads.Learnt,
   statement-below t,
   statement′.Post,
-) (statements-at t) statements.Post
+) (statements-at t) statements.Post statements-Inv-loop statements-μ-loop
 statements-kept-requires-3 t c κs = search needs
 
--- src/lib.rt:183:9
-statements-same-length-7 : (t : ℕ) → statements-lts.Need-same-length-7 (
-  next-at-reads.Asked,
-  next-at-reads.Learnt,
-  statements-below t,
-  statements.Post,
-  kept-reads.Asked,
-  kept-reads.Learnt,
-  statement-below t,
-  statement′.Post,
-) (statements-at t) statements.Post
-statements-same-length-7 t c = search needs
-
--- src/lib.rt:183:9
-statements-same-length-8 : (t : ℕ) → statements-lts.Need-same-length-8 (
-  next-at-reads.Asked,
-  next-at-reads.Learnt,
-  statements-below t,
-  statements.Post,
-  kept-reads.Asked,
-  kept-reads.Learnt,
-  statement-below t,
-  statement′.Post,
-) (statements-at t) statements.Post
-statements-same-length-8 t c = search needs
-
--- src/lib.rt:183:9
-statements-same-length-9 : (t : ℕ) → statements-lts.Need-same-length-9 (
-  next-at-reads.Asked,
-  next-at-reads.Learnt,
-  statements-below t,
-  statements.Post,
-  kept-reads.Asked,
-  kept-reads.Learnt,
-  statement-below t,
-  statement′.Post,
-) (statements-at t) statements.Post
-statements-same-length-9 t c = search needs
-
--- src/lib.rt:183:9
-statements-returns-4 : (t : ℕ) → statements-lts.Need-returns-4 (
-  next-at-reads.Asked,
-  next-at-reads.Learnt,
-  statements-below t,
-  statements.Post,
-  kept-reads.Asked,
-  kept-reads.Learnt,
-  statement-below t,
-  statement′.Post,
-) (statements-at t) statements.Post
-statements-returns-4 t c =
-    rw (c .kept3 .ensures) (λ w ρ st fine.
-    let sn = c .before .before .before .before .before .before .before .before .before .before .before .before .before .before .before .before .before .before .before .before .before .before .pre .1 .0 (c .before .before .before .before .before .before .before .before .before .before .before .before .before .before .if1 .left) in
-    ran-same (list-forward w sn _ (c .before .before .before .before .before .before .before .before .before .before .before .before .before .before .before .before .before .before .before .before .before .before .args .inverse) ρ _ (c .before .before .before .before .before .before .before .before .before .before .before .before .before .next-at .ensures) (c .before .before .before .before .before .before .before .before .before .before .before .before .if2 .left))
-      (both-refused w st _ _ _ _ _ _ _ _ _ (c .before .before .before .before .before .before .before .before .statement2 .ensures w ρ st (fine-first w sn _ fine)) (c .before .if4 .taken)))
-
--- src/lib.rt:185:10
-statements-statements-requires-2 : (t : ℕ) → statements-lts.Need-statements-requires-2 (
-  next-at-reads.Asked,
-  next-at-reads.Learnt,
-  statements-below t,
-  statements.Post,
-  kept-reads.Asked,
-  kept-reads.Learnt,
-  statement-below t,
-  statement′.Post,
-) (statements-at t) statements.Post
-statements-statements-requires-2 t c κs =
-    let sn = c .before .before .before .before .before .before .before .before .before .before .before .before .before .before .before .before .before .before .before .before .before .before .before .before .pre .1 .0 (c .before .before .before .before .before .before .before .before .before .before .before .before .before .before .before .before .if1 .left) in
-    (omega (arith, next-behind sn, c .before .before .before .before .before .before .before .before .before .before .before .before .before .before .before .next-at .ensures, c .before .before .before .before .before .before .before .before .before .before .before .before .before .before .before .before .before .before .before .before .before .before .before .before .pre .0, sn .inside, sn .code .few), (rw (c .before .before .before .before .before .before .before .before .before .before .before .before .before .before .before .next-at .ensures) (next-chain sn), c .before .before .before .before .before .before .before .before .before .before .before .before .before .before .before .before .before .before .before .before .before .before .before .before .pre .1 .1))
-
--- src/lib.rt:185:5
+-- src/lib.rt:186:13
 statements-kept-requires-4 : (t : ℕ) → statements-lts.Need-kept-requires-4 (
   next-at-reads.Asked,
   next-at-reads.Learnt,
@@ -1373,8 +1326,129 @@ statements-kept-requires-4 : (t : ℕ) → statements-lts.Need-kept-requires-4 (
   kept-reads.Learnt,
   statement-below t,
   statement′.Post,
-) (statements-at t) statements.Post
+) (statements-at t) statements.Post statements-Inv-loop statements-μ-loop
 statements-kept-requires-4 t c κs = search needs
+
+-- src/lib.rt:186:13
+statements-same-length-7 : (t : ℕ) → statements-lts.Need-same-length-7 (
+  next-at-reads.Asked,
+  next-at-reads.Learnt,
+  statements-below t,
+  statements.Post,
+  kept-reads.Asked,
+  kept-reads.Learnt,
+  statement-below t,
+  statement′.Post,
+) (statements-at t) statements.Post statements-Inv-loop statements-μ-loop
+statements-same-length-7 t c =
+    c .before .before .before .before .before .before .before .before .before .statement2 .kept .1 .1 .1 .1 .0 ∙ c .before .before .before .before .before .before .before .before .before .before .before .before .before .before .loop .inv .cells-long
+
+-- src/lib.rt:186:13
+statements-same-length-8 : (t : ℕ) → statements-lts.Need-same-length-8 (
+  next-at-reads.Asked,
+  next-at-reads.Learnt,
+  statements-below t,
+  statements.Post,
+  kept-reads.Asked,
+  kept-reads.Learnt,
+  statement-below t,
+  statement′.Post,
+) (statements-at t) statements.Post statements-Inv-loop statements-μ-loop
+statements-same-length-8 t c =
+    c .before .before .before .before .before .before .before .before .before .statement2 .kept .1 .1 .1 .1 .1 .0 ∙ c .before .before .before .before .before .before .before .before .before .before .before .before .before .before .loop .inv .slots-long
+
+-- src/lib.rt:186:13
+statements-same-length-9 : (t : ℕ) → statements-lts.Need-same-length-9 (
+  next-at-reads.Asked,
+  next-at-reads.Learnt,
+  statements-below t,
+  statements.Post,
+  kept-reads.Asked,
+  kept-reads.Learnt,
+  statement-below t,
+  statement′.Post,
+) (statements-at t) statements.Post statements-Inv-loop statements-μ-loop
+statements-same-length-9 t c =
+    c .before .before .before .before .before .before .before .before .before .statement2 .kept .1 .1 .1 .1 .1 .1 .0 ∙ c .before .before .before .before .before .before .before .before .before .before .before .before .before .before .loop .inv .trace-long
+
+-- src/lib.rt:186:13
+statements-returns-4 : (t : ℕ) → statements-lts.Need-returns-4 (
+  next-at-reads.Asked,
+  next-at-reads.Learnt,
+  statements-below t,
+  statements.Post,
+  kept-reads.Asked,
+  kept-reads.Learnt,
+  statement-below t,
+  statement′.Post,
+) (statements-at t) statements.Post statements-Inv-loop statements-μ-loop
+statements-returns-4 t c =
+    rw (c .kept4 .ensures, c .before .before .kept3 .ensures)
+      (follows-stops _ _ (c .before .before .before .before .before .before .before .before .before .before .before .before .before .before .before .before .before .before .before .before .before .before .before .before .args .inverse) _ _ _ _ _ (c .before .before .before .before .before .before .before .before .before .before .before .before .before .before .loop .inv) (c .before .before .before .before .before .before .before .before .before .before .before .before .before .before .before .if2 .left) (c .before .before .before .before .before .before .before .before .before .before .before .before .before .before .loop .inv .chain (c .before .before .before .before .before .before .before .before .before .before .before .before .before .loop-test .taken)) _ _ _ _
+        (c .before .before .before .before .before .before .before .before .before .statement2 .ensures) (λ e. c .before .if4 .taken (ap (λ r. r .number) (c .before .before .kept3 .ensures) ∙ e)))
+
+-- src/lib.rt:188:9
+statements-next-at-requires-2 : (t : ℕ) → statements-lts.Need-next-at-requires-2 (
+  next-at-reads.Asked,
+  next-at-reads.Learnt,
+  statements-below t,
+  statements.Post,
+  kept-reads.Asked,
+  kept-reads.Learnt,
+  statement-below t,
+  statement′.Post,
+) (statements-at t) statements.Post statements-Inv-loop statements-μ-loop
+statements-next-at-requires-2 t c κs = search needs
+
+-- src/lib.rt:182:5
+statements-loop-less : (t : ℕ) → statements-lts.Need-loop-less (
+  next-at-reads.Asked,
+  next-at-reads.Learnt,
+  statements-below t,
+  statements.Post,
+  kept-reads.Asked,
+  kept-reads.Learnt,
+  statement-below t,
+  statement′.Post,
+) (statements-at t) statements.Post statements-Inv-loop statements-μ-loop
+statements-loop-less t c =
+    let sm = c .before .before .before .before .before .before .before .before .before .before .before .before .before .before .loop .inv .chain (c .before .before .before .before .before .before .before .before .before .before .before .before .before .loop-test .taken) in
+    omega (arith, next-behind sm, c .next-at2 .ensures, sm .inside, sm .code .few)
+
+-- src/lib.rt:182:5
+statements-loop-again : (t : ℕ) → statements-lts.Need-loop-again (
+  next-at-reads.Asked,
+  next-at-reads.Learnt,
+  statements-below t,
+  statements.Post,
+  kept-reads.Asked,
+  kept-reads.Learnt,
+  statement-below t,
+  statement′.Post,
+) (statements-at t) statements.Post statements-Inv-loop statements-μ-loop
+statements-loop-again t c =
+    let sm = c .before .before .before .before .before .before .before .before .before .before .before .before .before .before .loop .inv .chain (c .before .before .before .before .before .before .before .before .before .before .before .before .before .loop-test .taken) in
+    rw (c .before .before .kept3 .ensures) (record {
+      chain = rw (c .next-at2 .ensures) (next-chain sm);
+      onward = omega (arith, next-behind sm, c .next-at2 .ensures, c .before .before .before .before .before .before .before .before .before .before .before .before .before .before .loop .inv .onward);
+      cells-long = c .before .before .before .before .before .before .before .before .before .statement2 .kept .1 .1 .1 .1 .0 ∙ c .before .before .before .before .before .before .before .before .before .before .before .before .before .before .loop .inv .cells-long;
+      slots-long = c .before .before .before .before .before .before .before .before .before .statement2 .kept .1 .1 .1 .1 .1 .0 ∙ c .before .before .before .before .before .before .before .before .before .before .before .before .before .before .loop .inv .slots-long;
+      trace-long = c .before .before .before .before .before .before .before .before .before .statement2 .kept .1 .1 .1 .1 .1 .1 .0 ∙ c .before .before .before .before .before .before .before .before .before .before .before .before .before .before .loop .inv .trace-long;
+      followed = followed-on _ _ (c .before .before .before .before .before .before .before .before .before .before .before .before .before .before .before .before .before .before .before .before .before .before .before .before .args .inverse) _ _ _ _ _ (c .before .before .before .before .before .before .before .before .before .before .before .before .before .before .loop .inv) (c .before .before .before .before .before .before .before .before .before .before .before .before .before .before .before .if2 .left) sm _ _ _ _
+        (c .before .before .before .before .before .before .before .before .before .statement2 .ensures) (sym (ap (λ r. r .number) (c .before .before .kept3 .ensures)) ∙ c .before .if4 .left) _ (c .next-at2 .ensures) })
+
+-- src/lib.rt:190:5
+statements-kept-requires-5 : (t : ℕ) → statements-lts.Need-kept-requires-5 (
+  next-at-reads.Asked,
+  next-at-reads.Learnt,
+  statements-below t,
+  statements.Post,
+  kept-reads.Asked,
+  kept-reads.Learnt,
+  statement-below t,
+  statement′.Post,
+) (statements-at t) statements.Post statements-Inv-loop statements-μ-loop
+statements-kept-requires-5 t c κs = search needs
 
 -- src/lib.rt:163:1
 statements-same-length-10 : (t : ℕ) → statements-lts.Need-same-length-10 (
@@ -1386,8 +1460,8 @@ statements-same-length-10 : (t : ℕ) → statements-lts.Need-same-length-10 (
   kept-reads.Learnt,
   statement-below t,
   statement′.Post,
-) (statements-at t) statements.Post
-statements-same-length-10 t c = search needs
+) (statements-at t) statements.Post statements-Inv-loop statements-μ-loop
+statements-same-length-10 t c = c .before .before .loop .inv .cells-long
 
 -- src/lib.rt:163:1
 statements-same-length-11 : (t : ℕ) → statements-lts.Need-same-length-11 (
@@ -1399,8 +1473,8 @@ statements-same-length-11 : (t : ℕ) → statements-lts.Need-same-length-11 (
   kept-reads.Learnt,
   statement-below t,
   statement′.Post,
-) (statements-at t) statements.Post
-statements-same-length-11 t c = search needs
+) (statements-at t) statements.Post statements-Inv-loop statements-μ-loop
+statements-same-length-11 t c = c .before .before .loop .inv .slots-long
 
 -- src/lib.rt:163:1
 statements-same-length-12 : (t : ℕ) → statements-lts.Need-same-length-12 (
@@ -1412,8 +1486,8 @@ statements-same-length-12 : (t : ℕ) → statements-lts.Need-same-length-12 (
   kept-reads.Learnt,
   statement-below t,
   statement′.Post,
-) (statements-at t) statements.Post
-statements-same-length-12 t c = search needs
+) (statements-at t) statements.Post statements-Inv-loop statements-μ-loop
+statements-same-length-12 t c = c .before .before .loop .inv .trace-long
 
 -- src/lib.rt:163:1
 statements-returns-5 : (t : ℕ) → statements-lts.Need-returns-5 (
@@ -1425,13 +1499,9 @@ statements-returns-5 : (t : ℕ) → statements-lts.Need-returns-5 (
   kept-reads.Learnt,
   statement-below t,
   statement′.Post,
-) (statements-at t) statements.Post
+) (statements-at t) statements.Post statements-Inv-loop statements-μ-loop
 statements-returns-5 t c =
-    rw (c .kept4 .ensures) (λ w ρ st fine.
-    let sn = c .before .before .before .before .before .before .before .before .before .before .before .before .before .before .before .before .before .before .before .before .before .before .before .before .before .before .before .before .before .before .before .before .pre .1 .0 (c .before .before .before .before .before .before .before .before .before .before .before .before .before .before .before .before .before .before .before .before .before .before .before .before .if1 .left) in
-    ran-same (list-forward w sn _ (c .before .before .before .before .before .before .before .before .before .before .before .before .before .before .before .before .before .before .before .before .before .before .before .before .before .before .before .before .before .before .before .before .args .inverse) ρ _ (c .before .before .before .before .before .before .before .before .before .before .before .before .before .before .before .before .before .before .before .before .before .before .before .next-at .ensures) (c .before .before .before .before .before .before .before .before .before .before .before .before .before .before .before .before .before .before .before .before .before .before .if2 .left))
-      (both-on w st _ _ _ _ _ _ _ _ _ (c .before .before .before .before .before .before .before .before .before .before .before .before .before .before .before .before .before .before .statement2 .ensures w ρ st (fine-first w sn _ fine)) (c .before .before .before .before .before .before .before .before .before .before .before .if4 .left)
-        (c .before .before .before .before .before .before .before .before .before .before .before .before .before .before .before .before .before .before .statement2 .kept .1 .1 .1 .1 .1 .0) _ _ _ _ (λ st₁. c .before .before .before .before .before .before .before .statements2 .ensures w ρ st₁ (fine-rest w sn _ fine _ (c .before .before .before .before .before .before .before .before .before .before .before .before .before .before .before .before .before .before .before .before .before .before .before .next-at .ensures)))))
+    rw (c .kept5 .ensures) (follows-ends _ _ (c .before .before .before .before .before .before .before .before .before .before .before .before .args .inverse) _ _ _ _ _ (c .before .before .loop .inv) (c .before .loop-test .left))
 
 abbrev turns-Inv-loop : turns-lts.InvT-loop
 turns-Inv-loop nodes procedures variables constants cells₀ slots₀ trace₀ inverse p it counter₀ done₀ left₀ cells slots trace counter done left =
@@ -1441,7 +1511,7 @@ abbrev turns-μ-loop : turns-lts.MeasureT-loop
 turns-μ-loop nodes procedures variables constants cells₀ slots₀ trace₀ inverse p it counter₀ done₀ left₀ cells slots trace counter done left =
     left
 
--- src/lib.rt:194:5
+-- src/lib.rt:199:5
 turns-put-requires : (t : ℕ) → turns-lts.Need-put-requires (
   put-reads.Asked,
   put-reads.Learnt,
@@ -1456,7 +1526,7 @@ turns-put-requires : (t : ℕ) → turns-lts.Need-put-requires (
 ) (turns-at t) turns.Post turns-Inv-loop turns-μ-loop
 turns-put-requires t c κs = search needs
 
--- src/lib.rt:195:9
+-- src/lib.rt:200:9
 turns-cell-requires : (t : ℕ) → turns-lts.Need-cell-requires (
   put-reads.Asked,
   put-reads.Learnt,
@@ -1471,7 +1541,7 @@ turns-cell-requires : (t : ℕ) → turns-lts.Need-cell-requires (
 ) (turns-at t) turns.Post turns-Inv-loop turns-μ-loop
 turns-cell-requires t c κs = search needs
 
--- src/lib.rt:198:5
+-- src/lib.rt:203:5
 turns-loop-holds : (t : ℕ) → turns-lts.Need-loop-holds (
   put-reads.Asked,
   put-reads.Learnt,
@@ -1486,7 +1556,7 @@ turns-loop-holds : (t : ℕ) → turns-lts.Need-loop-holds (
 ) (turns-at t) turns.Post turns-Inv-loop turns-μ-loop
 turns-loop-holds t c = record { counts = c .cell .ensures; cells-long = refl; slots-long = refl; trace-long = refl; turned = turned-starts _ _ _ _ _ _ _ }
 
--- src/lib.rt:200:13
+-- src/lib.rt:205:13
 turns-refused-requires : (t : ℕ) → turns-lts.Need-refused-requires (
   put-reads.Asked,
   put-reads.Learnt,
@@ -1501,7 +1571,7 @@ turns-refused-requires : (t : ℕ) → turns-lts.Need-refused-requires (
 ) (turns-at t) turns.Post turns-Inv-loop turns-μ-loop
 turns-refused-requires t c κs = search needs
 
--- src/lib.rt:200:13
+-- src/lib.rt:205:13
 turns-same-length : (t : ℕ) → turns-lts.Need-same-length (
   put-reads.Asked,
   put-reads.Learnt,
@@ -1517,7 +1587,7 @@ turns-same-length : (t : ℕ) → turns-lts.Need-same-length (
 turns-same-length t c =
     c .before .before .before .before .loop .inv .cells-long ∙ c .before .before .before .before .before .before .before .before .before .put .kept .0
 
--- src/lib.rt:200:13
+-- src/lib.rt:205:13
 turns-same-length-2 : (t : ℕ) → turns-lts.Need-same-length-2 (
   put-reads.Asked,
   put-reads.Learnt,
@@ -1532,7 +1602,7 @@ turns-same-length-2 : (t : ℕ) → turns-lts.Need-same-length-2 (
 ) (turns-at t) turns.Post turns-Inv-loop turns-μ-loop
 turns-same-length-2 t c = c .before .before .before .before .loop .inv .slots-long
 
--- src/lib.rt:200:13
+-- src/lib.rt:205:13
 turns-same-length-3 : (t : ℕ) → turns-lts.Need-same-length-3 (
   put-reads.Asked,
   put-reads.Learnt,
@@ -1547,7 +1617,7 @@ turns-same-length-3 : (t : ℕ) → turns-lts.Need-same-length-3 (
 ) (turns-at t) turns.Post turns-Inv-loop turns-μ-loop
 turns-same-length-3 t c = c .before .before .before .before .loop .inv .trace-long
 
--- src/lib.rt:200:13
+-- src/lib.rt:205:13
 turns-returns : (t : ℕ) → turns-lts.Need-returns (
   put-reads.Asked,
   put-reads.Learnt,
@@ -1566,7 +1636,7 @@ turns-returns t c =
       (λ e. omega (arith, c .refused .ensures .number-is, e))
       (λ st₁ k h. no-turn _ _ (c .before .before .before .before .before .before .before .before .before .before .before .before .before .before .before .before .before .before .args .it) _ _ _ _ _ _ (λ e. c .before .before .if1 .taken (c .before .before .before .before .loop .inv .counts ∙ e)) k h (c .before .if2 .taken) _ (c .refused .ensures))
 
--- src/lib.rt:202:16
+-- src/lib.rt:207:16
 turns-sub-left : (t : ℕ) → turns-lts.Need-sub-left (
   put-reads.Asked,
   put-reads.Learnt,
@@ -1581,7 +1651,7 @@ turns-sub-left : (t : ℕ) → turns-lts.Need-sub-left (
 ) (turns-at t) turns.Post turns-Inv-loop turns-μ-loop
 turns-sub-left t c = search needs
 
--- src/lib.rt:203:13
+-- src/lib.rt:208:13
 turns-step-requires : (t : ℕ) → turns-lts.Need-step-requires (
   put-reads.Asked,
   put-reads.Learnt,
@@ -1596,7 +1666,7 @@ turns-step-requires : (t : ℕ) → turns-lts.Need-step-requires (
 ) (turns-at t) turns.Post turns-Inv-loop turns-μ-loop
 turns-step-requires t c κs = search needs
 
--- src/lib.rt:206:13
+-- src/lib.rt:211:13
 turns-same-length-4 : (t : ℕ) → turns-lts.Need-same-length-4 (
   put-reads.Asked,
   put-reads.Learnt,
@@ -1612,7 +1682,7 @@ turns-same-length-4 : (t : ℕ) → turns-lts.Need-same-length-4 (
 turns-same-length-4 t c =
     c .before .before .before .before .before .before .before .before .loop .inv .cells-long ∙ c .before .before .before .before .before .before .before .before .before .before .before .before .before .put .kept .0
 
--- src/lib.rt:206:13
+-- src/lib.rt:211:13
 turns-same-length-5 : (t : ℕ) → turns-lts.Need-same-length-5 (
   put-reads.Asked,
   put-reads.Learnt,
@@ -1627,7 +1697,7 @@ turns-same-length-5 : (t : ℕ) → turns-lts.Need-same-length-5 (
 ) (turns-at t) turns.Post turns-Inv-loop turns-μ-loop
 turns-same-length-5 t c = c .before .before .before .before .before .before .before .before .loop .inv .slots-long
 
--- src/lib.rt:206:13
+-- src/lib.rt:211:13
 turns-same-length-6 : (t : ℕ) → turns-lts.Need-same-length-6 (
   put-reads.Asked,
   put-reads.Learnt,
@@ -1642,7 +1712,7 @@ turns-same-length-6 : (t : ℕ) → turns-lts.Need-same-length-6 (
 ) (turns-at t) turns.Post turns-Inv-loop turns-μ-loop
 turns-same-length-6 t c = c .before .before .before .step .kept .0 ∙ c .before .before .before .before .before .before .before .before .loop .inv .trace-long
 
--- src/lib.rt:206:13
+-- src/lib.rt:211:13
 turns-returns-2 : (t : ℕ) → turns-lts.Need-returns-2 (
   put-reads.Asked,
   put-reads.Learnt,
@@ -1660,7 +1730,7 @@ turns-returns-2 t c =
     loop-stops _ _ _ _ _ _ _ _ (c .before .before .before .before .before .before .before .before .loop .inv .turned) (c .before .before .before .before .before .before .before .before .loop .inv .slots-long) _ (c .before .before .before .before .before .before .before .before .before .before .before .before .before .put .ensures) w ρ st fine _ _ _ _ (c .if3 .taken)
       (λ st₁ k h. turn-refused _ _ (c .before .before .before .before .before .before .before .before .before .before .before .before .before .before .before .before .before .before .before .before .before .before .args .it) _ _ _ _ _ _ (λ e. c .before .before .before .before .before .before .if1 .taken (c .before .before .before .before .before .before .before .before .loop .inv .counts ∙ e)) k h (c .before .before .before .before .before .if2 .left) _ _ (c .before .before .before .step .ensures _) (c .if3 .taken))
 
--- src/lib.rt:208:9
+-- src/lib.rt:213:9
 turns-statement-requires : (t : ℕ) → turns-lts.Need-statement-requires (
   put-reads.Asked,
   put-reads.Learnt,
@@ -1676,7 +1746,7 @@ turns-statement-requires : (t : ℕ) → turns-lts.Need-statement-requires (
 turns-statement-requires t c κs =
     (omega (arith, c .before .before .before .before .before .before .before .before .before .before .before .before .before .before .before .before .before .before .before .before .before .before .before .before .before .pre .0, c .before .before .before .before .before .before .before .before .before .before .before .before .before .before .before .before .before .before .before .before .before .before .before .before .before .pre .1 .1), (c .before .before .before .before .before .before .before .before .before .before .before .before .before .before .before .before .before .before .before .before .before .before .before .before .before .pre .1 .0, c .before .before .before .before .before .before .before .before .before .before .before .before .before .before .before .before .before .before .before .before .before .before .before .before .before .pre .1 .2))
 
--- src/lib.rt:211:13
+-- src/lib.rt:216:13
 turns-same-length-7 : (t : ℕ) → turns-lts.Need-same-length-7 (
   put-reads.Asked,
   put-reads.Learnt,
@@ -1692,7 +1762,7 @@ turns-same-length-7 : (t : ℕ) → turns-lts.Need-same-length-7 (
 turns-same-length-7 t c =
     c .before .before .before .before .before .before .before .statement .kept .1 .1 .1 .1 .0 ∙ c .before .before .before .before .before .before .before .before .before .before .before .before .before .before .before .before .before .before .before .loop .inv .cells-long ∙ c .before .before .before .before .before .before .before .before .before .before .before .before .before .before .before .before .before .before .before .before .before .before .before .before .put .kept .0
 
--- src/lib.rt:211:13
+-- src/lib.rt:216:13
 turns-same-length-8 : (t : ℕ) → turns-lts.Need-same-length-8 (
   put-reads.Asked,
   put-reads.Learnt,
@@ -1708,7 +1778,7 @@ turns-same-length-8 : (t : ℕ) → turns-lts.Need-same-length-8 (
 turns-same-length-8 t c =
     c .before .before .before .before .before .before .before .statement .kept .1 .1 .1 .1 .1 .0 ∙ c .before .before .before .before .before .before .before .before .before .before .before .before .before .before .before .before .before .before .before .loop .inv .slots-long
 
--- src/lib.rt:211:13
+-- src/lib.rt:216:13
 turns-same-length-9 : (t : ℕ) → turns-lts.Need-same-length-9 (
   put-reads.Asked,
   put-reads.Learnt,
@@ -1724,7 +1794,7 @@ turns-same-length-9 : (t : ℕ) → turns-lts.Need-same-length-9 (
 turns-same-length-9 t c =
     c .before .before .before .before .before .before .before .statement .kept .1 .1 .1 .1 .1 .1 .0 ∙ c .before .before .before .before .before .before .before .before .before .before .before .before .before .before .step .kept .0 ∙ c .before .before .before .before .before .before .before .before .before .before .before .before .before .before .before .before .before .before .before .loop .inv .trace-long
 
--- src/lib.rt:211:13
+-- src/lib.rt:216:13
 turns-returns-3 : (t : ℕ) → turns-lts.Need-returns-3 (
   put-reads.Asked,
   put-reads.Learnt,
@@ -1743,7 +1813,7 @@ turns-returns-3 t c =
       (λ st₁ k h. body-refused _ _ (c .before .before .before .before .before .before .before .before .before .before .before .before .before .before .before .before .before .before .before .before .before .before .before .before .before .before .before .before .before .before .before .before .before .args .it) _ _ _ _ _ _ (λ e. c .before .before .before .before .before .before .before .before .before .before .before .before .before .before .before .before .before .if1 .taken (c .before .before .before .before .before .before .before .before .before .before .before .before .before .before .before .before .before .before .before .loop .inv .counts ∙ e)) k h (c .before .before .before .before .before .before .before .before .before .before .before .before .before .before .before .before .if2 .left) _ _ (c .before .before .before .before .before .before .before .before .before .before .before .before .before .before .step .ensures _) (c .before .before .before .before .before .before .before .before .before .before .before .if3 .left)
         _ _ _ _ (c .before .before .before .before .before .before .before .statement .ensures w ρ st₁ fine) (c .if4 .taken))
 
--- src/lib.rt:213:9
+-- src/lib.rt:218:9
 turns-cell-requires-2 : (t : ℕ) → turns-lts.Need-cell-requires-2 (
   put-reads.Asked,
   put-reads.Learnt,
@@ -1758,7 +1828,7 @@ turns-cell-requires-2 : (t : ℕ) → turns-lts.Need-cell-requires-2 (
 ) (turns-at t) turns.Post turns-Inv-loop turns-μ-loop
 turns-cell-requires-2 t c κs = search needs
 
--- src/lib.rt:215:13
+-- src/lib.rt:220:13
 turns-refused-requires-2 : (t : ℕ) → turns-lts.Need-refused-requires-2 (
   put-reads.Asked,
   put-reads.Learnt,
@@ -1773,7 +1843,7 @@ turns-refused-requires-2 : (t : ℕ) → turns-lts.Need-refused-requires-2 (
 ) (turns-at t) turns.Post turns-Inv-loop turns-μ-loop
 turns-refused-requires-2 t c κs = search needs
 
--- src/lib.rt:215:13
+-- src/lib.rt:220:13
 turns-same-length-10 : (t : ℕ) → turns-lts.Need-same-length-10 (
   put-reads.Asked,
   put-reads.Learnt,
@@ -1789,7 +1859,7 @@ turns-same-length-10 : (t : ℕ) → turns-lts.Need-same-length-10 (
 turns-same-length-10 t c =
     c .before .before .before .before .before .before .before .before .before .before .before .before .statement .kept .1 .1 .1 .1 .0 ∙ c .before .before .before .before .before .before .before .before .before .before .before .before .before .before .before .before .before .before .before .before .before .before .before .before .loop .inv .cells-long ∙ c .before .before .before .before .before .before .before .before .before .before .before .before .before .before .before .before .before .before .before .before .before .before .before .before .before .before .before .before .before .put .kept .0
 
--- src/lib.rt:215:13
+-- src/lib.rt:220:13
 turns-same-length-11 : (t : ℕ) → turns-lts.Need-same-length-11 (
   put-reads.Asked,
   put-reads.Learnt,
@@ -1805,7 +1875,7 @@ turns-same-length-11 : (t : ℕ) → turns-lts.Need-same-length-11 (
 turns-same-length-11 t c =
     c .before .before .before .before .before .before .before .before .before .before .before .before .statement .kept .1 .1 .1 .1 .1 .0 ∙ c .before .before .before .before .before .before .before .before .before .before .before .before .before .before .before .before .before .before .before .before .before .before .before .before .loop .inv .slots-long
 
--- src/lib.rt:215:13
+-- src/lib.rt:220:13
 turns-same-length-12 : (t : ℕ) → turns-lts.Need-same-length-12 (
   put-reads.Asked,
   put-reads.Learnt,
@@ -1821,7 +1891,7 @@ turns-same-length-12 : (t : ℕ) → turns-lts.Need-same-length-12 (
 turns-same-length-12 t c =
     c .before .before .before .before .before .before .before .before .before .before .before .before .statement .kept .1 .1 .1 .1 .1 .1 .0 ∙ c .before .before .before .before .before .before .before .before .before .before .before .before .before .before .before .before .before .before .before .step .kept .0 ∙ c .before .before .before .before .before .before .before .before .before .before .before .before .before .before .before .before .before .before .before .before .before .before .before .before .loop .inv .trace-long
 
--- src/lib.rt:215:13
+-- src/lib.rt:220:13
 turns-returns-4 : (t : ℕ) → turns-lts.Need-returns-4 (
   put-reads.Asked,
   put-reads.Learnt,
@@ -1841,7 +1911,7 @@ turns-returns-4 t c =
       (λ st₁ k h. met-first _ _ (c .before .before .before .before .before .before .before .before .before .before .before .before .before .before .before .before .before .before .before .before .before .before .before .before .before .before .before .before .before .before .before .before .before .before .before .before .before .before .args .it) _ _ _ _ _ _ (λ e. c .before .before .before .before .before .before .before .before .before .before .before .before .before .before .before .before .before .before .before .before .before .before .if1 .taken (c .before .before .before .before .before .before .before .before .before .before .before .before .before .before .before .before .before .before .before .before .before .before .before .before .loop .inv .counts ∙ e)) k h (c .before .before .before .before .before .before .before .before .before .before .before .before .before .before .before .before .before .before .before .before .before .if2 .left) _ _ (c .before .before .before .before .before .before .before .before .before .before .before .before .before .before .before .before .before .before .before .step .ensures _) (c .before .before .before .before .before .before .before .before .before .before .before .before .before .before .before .before .if3 .left)
         _ _ _ _ (c .before .before .before .before .before .before .before .before .before .before .before .before .statement .ensures w ρ st₁ fine) (c .before .before .before .before .before .if4 .left) (sym (c .before .before .before .cell2 .ensures) ∙ c .before .if5 .taken) _ (c .refused2 .ensures))
 
--- src/lib.rt:198:5
+-- src/lib.rt:203:5
 turns-loop-less : (t : ℕ) → turns-lts.Need-loop-less (
   put-reads.Asked,
   put-reads.Learnt,
@@ -1857,7 +1927,7 @@ turns-loop-less : (t : ℕ) → turns-lts.Need-loop-less (
 turns-loop-less t c =
     omega (arith, c .before .before .before .before .before .before .before .before .before .before .before .before .before .before .before .before .before .before .before .before .if2 .left)
 
--- src/lib.rt:198:5
+-- src/lib.rt:203:5
 turns-loop-again : (t : ℕ) → turns-lts.Need-loop-again (
   put-reads.Asked,
   put-reads.Learnt,
@@ -1879,7 +1949,7 @@ turns-loop-again t c =
       turned = turned-on _ _ _ _ _ _ _ _ (c .before .before .before .before .before .before .before .before .before .before .before .before .before .before .before .before .before .before .before .before .before .before .before .loop .inv .turned) (c .before .before .before .before .before .before .before .before .before .before .before .before .before .before .before .before .before .before .before .before .before .before .before .loop .inv .slots-long) (λ e. c .before .before .before .before .before .before .before .before .before .before .before .before .before .before .before .before .before .before .before .before .before .if1 .taken (c .before .before .before .before .before .before .before .before .before .before .before .before .before .before .before .before .before .before .before .before .before .before .before .loop .inv .counts ∙ e)) (c .before .before .before .before .before .before .before .before .before .before .before .before .before .before .before .before .before .before .before .before .if2 .left)
         _ _ (c .before .before .before .before .before .before .before .before .before .before .before .before .before .before .before .before .before .before .step .ensures _) (c .before .before .before .before .before .before .before .before .before .before .before .before .before .before .before .if3 .left) _ _ _ _ (c .before .before .before .before .before .before .before .before .before .before .before .statement .ensures) (c .before .before .before .before .if4 .left) (λ e. c .if5 .left (c .before .before .cell2 .ensures ∙ e)) }
 
--- src/lib.rt:218:5
+-- src/lib.rt:223:5
 turns-put-requires-2 : (t : ℕ) → turns-lts.Need-put-requires-2 (
   put-reads.Asked,
   put-reads.Learnt,
@@ -1894,7 +1964,7 @@ turns-put-requires-2 : (t : ℕ) → turns-lts.Need-put-requires-2 (
 ) (turns-at t) turns.Post turns-Inv-loop turns-μ-loop
 turns-put-requires-2 t c κs = search needs
 
--- src/lib.rt:189:1
+-- src/lib.rt:194:1
 turns-same-length-13 : (t : ℕ) → turns-lts.Need-same-length-13 (
   put-reads.Asked,
   put-reads.Learnt,
@@ -1910,7 +1980,7 @@ turns-same-length-13 : (t : ℕ) → turns-lts.Need-same-length-13 (
 turns-same-length-13 t c =
     c .before .before .put2 .kept .0 ∙ c .before .before .before .before .before .before .loop .inv .cells-long ∙ c .before .before .before .before .before .before .before .before .before .before .before .put .kept .0
 
--- src/lib.rt:189:1
+-- src/lib.rt:194:1
 turns-same-length-14 : (t : ℕ) → turns-lts.Need-same-length-14 (
   put-reads.Asked,
   put-reads.Learnt,
@@ -1925,7 +1995,7 @@ turns-same-length-14 : (t : ℕ) → turns-lts.Need-same-length-14 (
 ) (turns-at t) turns.Post turns-Inv-loop turns-μ-loop
 turns-same-length-14 t c = c .before .before .before .before .before .before .loop .inv .slots-long
 
--- src/lib.rt:189:1
+-- src/lib.rt:194:1
 turns-same-length-15 : (t : ℕ) → turns-lts.Need-same-length-15 (
   put-reads.Asked,
   put-reads.Learnt,
@@ -1940,7 +2010,7 @@ turns-same-length-15 : (t : ℕ) → turns-lts.Need-same-length-15 (
 ) (turns-at t) turns.Post turns-Inv-loop turns-μ-loop
 turns-same-length-15 t c = c .before .before .before .before .before .before .loop .inv .trace-long
 
--- src/lib.rt:189:1
+-- src/lib.rt:194:1
 turns-returns-5 : (t : ℕ) → turns-lts.Need-returns-5 (
   put-reads.Asked,
   put-reads.Learnt,
@@ -2056,6 +2126,8 @@ pub +called+statement+statements+turns-spec : {M : Type 1} → statement M
     )
     (statements-at t)
     statements.Post
+    statements-Inv-loop
+    statements-μ-loop
     (statements-returns t)
     (statements-next-at-requires t)
     (statements-statements-requires t)
@@ -2070,14 +2142,18 @@ pub +called+statement+statements+turns-spec : {M : Type 1} → statement M
     (statements-same-length-5 t)
     (statements-same-length-6 t)
     (statements-returns-3 t)
+    (statements-loop-holds t)
     (statements-statement-requires-2 t)
     (statements-kept-requires-3 t)
+    (statements-kept-requires-4 t)
     (statements-same-length-7 t)
     (statements-same-length-8 t)
     (statements-same-length-9 t)
     (statements-returns-4 t)
-    (statements-statements-requires-2 t)
-    (statements-kept-requires-4 t)
+    (statements-next-at-requires-2 t)
+    (statements-loop-less t)
+    (statements-loop-again t)
+    (statements-kept-requires-5 t)
     (statements-same-length-10 t)
     (statements-same-length-11 t)
     (statements-same-length-12 t)
