@@ -181,8 +181,8 @@ fn statements(nodes: &[u8], procedures: &[u8], variables: &[u8], constants: &[u8
     let mut at = n;
     while at != 65535 {
         done = kept(statement(&nodes[..], &procedures[..], &variables[..], &constants[..], cells, slots, trace, inverse, p, at, done));
-        let trouble = done.number;
-        if trouble != 0 {
+        let stopped = done.number;
+        if stopped != 0 {
             return kept(done);
         }
         at = records::next_at(&nodes[..], at);
