@@ -1,6 +1,6 @@
--- An expression is none of the statements' cases: it is taken apart as an expression.
+-- An expression is none of the statements' cases: it is taken apart as an expression. An expression or L-value is known by the head of its record.
 use Prim.Native.Nat.{ℕ, _≤_, _<_}
-use mathlib.Core.Path.{_≡_}
+use mathlib.Core.Path.{_≡_, refl}
 use mathlib.Core.List.{List}
 use mathlib.Core.Bool.{true, false}
 use native.Mathlib.Omega.{arith}
@@ -8,9 +8,18 @@ use borrow.Author.Tests.{leb-true, ne-eqb}
 use lib.Dec.{eqb, leb}
 use Rattle.rules.specs.Image.{Node, isExpression}
 use Rattle.records.specs.Truth.{both}
-use Rattle.records.specs.Decode.{expressionBy, decodedBy}
+use Rattle.records.specs.Records.{headed}
+use Rattle.records.specs.Decode.{lvalueBy, expressionBy, decodedBy}
 
 module _ (n : ℕ) (r : Node) where
+  pub lvalue-headed : lvalueBy n (headed r) ≡ lvalueBy n r
+  unfolding lvalueBy
+  lvalue-headed = refl
+
+  pub expression-headed : expressionBy n (headed r) ≡ expressionBy n r
+  unfolding expressionBy lvalueBy
+  expression-headed = refl
+
   other : (k : ℕ) → k < 20 → isExpression (r .kind) ≡ true → eqb (r .kind) k ≡ false
   other k small i = let low : 20 ≤ r .kind = leb-true _ _ (both (leb 20 (r .kind)) _ i .0) in ne-eqb (r .kind) k (λ e. omega arith)
 

@@ -6,6 +6,7 @@ use Rattle.records.specs.declared.Header.{Header}
 use Rattle.records.specs.declared.Procedure.{Procedure}
 use Rattle.records.specs.declared.Variable.{Variable}
 use Rattle.records.specs.declared.RawNode.{RawNode}
+use Rattle.records.specs.declared.Head.{Head}
 
 abbrev pub asHeader : Header → rules.Header
 asHeader h = record {
@@ -29,6 +30,13 @@ asVariable v = record { kind = v .kind; secrecy = v .secrecy; size = v .size; ze
 
 abbrev pub asNode : RawNode → rules.Node
 asNode r = record { kind = r .kind; operator = r .operator; a = r .a; b = r .b; c = r .c; d = r .d; next = r .next }
+
+-- An expression or L-value has a kind, an operator, a and b: the rest of its record is not read.
+abbrev pub headed : rules.Node → rules.Node
+headed r = record { kind = r .kind; operator = r .operator; a = r .a; b = r .b; c = 0; d = 0; next = 0 }
+
+abbrev pub asHead : Head → rules.Node
+asHead r = record { kind = r .kind; operator = r .operator; a = r .a; b = r .b; c = 0; d = 0; next = 0 }
 
 abbrev pub asVerdict : Verdict → verdict.Verdict
 asVerdict v = record { number = v .number; place = v .place }

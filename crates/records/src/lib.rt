@@ -6,7 +6,7 @@ ghost use Prim.Native.Nat.{_+_, _*_, _<_};
 ghost use lib.ListN.{getD, length};
 ghost use Rattle.rules.specs.Image.{le16, le32, le64, headerOf, procedureOf, variableOf, nodeOf, constantOf, isExpression};
 ghost use Rattle.rules.specs.Form.{classOf};
-ghost use Rattle.records.specs.Records.{asHeader, asProcedure, asVariable, asNode};
+ghost use Rattle.records.specs.Records.{asHeader, asProcedure, asVariable, asNode, asHead, headed};
 ghost use Rattle.records.specs.Decode.{lvalueBy, lvalueAt, updateBy, swapBy, conditionalSwapBy, expressionBy, decodedBy, decodedAt, argumentAt};
 
 // "Answer: a number and a place, 0 and 0 when accepted."
@@ -225,6 +225,63 @@ pub fn record_at(nodes: &[u8], n: u16) -> RawNode
     record_past(&nodes[..], n)
 }
 
+// As much of a node's record as an expression or L-value has.
+pub struct Head {
+    pub kind: u8,
+    pub operator: u8,
+    pub a: u16,
+    pub b: u16,
+}
+
+// The head of a node that stands inside the nodes' part.
+fn head_inside(nodes: &[u8], n: u16) -> Head
+    requires { ⌜ n * 12 + 5 < length (now nodes) ⌝ }
+    ensures { λ r. ⌜ asHead r ≡ headed (nodeOf (now (nodes .entry)) n) ⌝ }
+{
+    let at = n as usize * 12;
+    Head {
+        kind: nodes[at],
+        operator: nodes[at + 1],
+        a: u16_inside(&nodes[..], at + 2),
+        b: u16_inside(&nodes[..], at + 4),
+    }
+}
+
+// The head of a node that may end past the nodes' part.
+fn head_past(nodes: &[u8], n: u16) -> Head
+    ensures { λ r. ⌜ asHead r ≡ headed (nodeOf (now (nodes .entry)) n) ⌝ }
+{
+    let at = n as usize * 12;
+    Head {
+        kind: u8_at(&nodes[..], at),
+        operator: u8_at(&nodes[..], at + 1),
+        a: u16_at(&nodes[..], at + 2),
+        b: u16_at(&nodes[..], at + 4),
+    }
+}
+
+// The head of node n in the nodes' part.
+fn head_at(nodes: &[u8], n: u16) -> Head
+    ensures { λ r. ⌜ asHead r ≡ headed (nodeOf (now (nodes .entry)) n) ⌝ }
+{
+    if n as usize * 12 + 5 < nodes.len() {
+        return head_inside(&nodes[..], n);
+    }
+    head_past(&nodes[..], n)
+}
+
+// The head of a record that was read whole.
+fn head_of(r: RawNode) -> Head
+    ensures { λ x. ⌜ asHead x ≡ headed (asNode r) ⌝ }
+{
+    Head {
+        kind: r.kind,
+        operator: r.operator,
+        a: r.a,
+        b: r.b,
+    }
+}
+
 // "Kinds 21 to 23 are L-values": the node, the variable that it names, and the index's node.
 pub enum LValue {
     Variable { node: u16, variable: u16 },
@@ -308,9 +365,9 @@ pub enum Decoded {
     Refused { number: u8, place: u16 },
 }
 
-// The L-value that the record r of node n is, or that it is none.
-fn lvalue_of(n: u16, r: RawNode) -> Target
-    ensures { λ t. ⌜ t ≡ lvalueBy n (asNode r) ⌝ }
+// The L-value that the node n with this head is, or that it is none.
+fn lvalue_of(n: u16, r: Head) -> Target
+    ensures { λ t. ⌜ t ≡ lvalueBy n (asHead r) ⌝ }
 {
     let kind = r.kind;
     match kind {
@@ -336,7 +393,7 @@ fn lvalue_of(n: u16, r: RawNode) -> Target
 pub fn lvalue_at(nodes: &[u8], n: u16) -> Target
     ensures { λ t. ⌜ t ≡ lvalueAt (now (nodes .entry)) n ⌝ }
 {
-    lvalue_of(n, record_at(&nodes[..], n))
+    lvalue_of(n, head_at(&nodes[..], n))
 }
 
 // The refusal of a node whose target is no L-value, or whose kind is none.
@@ -430,13 +487,13 @@ fn taken_apart(nodes: &[u8], n: u16, r: RawNode) -> Decoded
             count: r.b,
             statement: r.c,
         }),
-        _ => expression_taken_apart(n, r),
+        _ => expression_taken_apart(n, head_of(r)),
     }
 }
 
-// The record r of node n, which is no statement's, taken apart.
-fn expression_taken_apart(n: u16, r: RawNode) -> Decoded
-    ensures { λ x. ⌜ x ≡ expressionBy n (asNode r) ⌝ }
+// The node n with this head, which is no statement, taken apart.
+fn expression_taken_apart(n: u16, r: Head) -> Decoded
+    ensures { λ x. ⌜ x ≡ expressionBy n (asHead r) ⌝ }
 {
     let kind = r.kind;
     match kind {
@@ -462,7 +519,7 @@ pub fn expression_at(nodes: &[u8], n: u16) -> Decoded
     requires { ⌜ isExpression (nodeOf (now nodes) n .kind) ≡ true ⌝ }
     ensures { λ r. ⌜ r ≡ decodedAt (now (nodes .entry)) n ⌝ }
 {
-    expression_taken_apart(n, record_at(&nodes[..], n))
+    expression_taken_apart(n, head_at(&nodes[..], n))
 }
 
 // Node n as its case, or the refusal with the place.
@@ -477,7 +534,7 @@ pub fn argument_at(nodes: &[u8], by: u16, n: u16) -> Decoded
     ensures { λ r. ⌜ r ≡ argumentAt (now (nodes .entry)) by n ⌝ }
 {
     let r = record_at(&nodes[..], n);
-    let Target::Place(target) = lvalue_of(n, r) else {
+    let Target::Place(target) = lvalue_of(n, head_of(r)) else {
         return refused(by);
     };
     Decoded::Is(Node::Argument {

@@ -2,7 +2,7 @@
 use mathlib.Core.Path.{_≡_, sym, _∙_}
 use borrow.Author.Tests.{ne-eqb}
 use borrow.Author.Needs.{needs}
-use Rattle.records.specs.Records.{asNode}
+use Rattle.records.specs.Records.{asHead}
 use Rattle.records.specs.Decode.{lvalueBy, withTarget, expressionBy}
 use Rattle.records.specs.declared.Decoded.the-variants.{Is}
 use Rattle.records.specs.declared.Node.the-variants.{Value}
@@ -11,7 +11,7 @@ use Rattle.records.proofs.expression_taken_apart.Tie as tie
 
 -- where the kind is none of the four
 at-rest : (c : tie.At-match-rest)
-    → expressionBy (c .before .args .n) (asNode (c .before .args .r)) ≡ withTarget (lvalueBy (c .before .args .n) (asNode (c .before .args .r))) (c .before .args .n) (λ l. Is (Value l))
+    → expressionBy (c .before .args .n) (asHead (c .before .args .r)) ≡ withTarget (lvalueBy (c .before .args .n) (asHead (c .before .args .r))) (c .before .args .n) (λ l. Is (Value l))
 unfolding expressionBy
 at-rest c = simp (ne-eqb _ _ (c .match .rest .1), ne-eqb _ _ (c .match .rest .0 .1), ne-eqb _ _ (c .match .rest .0 .0 .1), ne-eqb _ _ (c .match .rest .0 .0 .0 .1))
 

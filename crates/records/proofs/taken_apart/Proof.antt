@@ -1,7 +1,9 @@
 -- An arm's key picks the definition's choice; in the last arm each key is shut out.
+use mathlib.Core.Path.{ap, _∙_}
 use borrow.Author.Tests.{ne-eqb}
 use borrow.Author.Needs.{needs}
-use Rattle.records.specs.Decode.{decodedBy}
+use Rattle.records.specs.Expressions.{expression-headed}
+use Rattle.records.specs.Decode.{expressionBy, decodedBy}
 use Rattle.records.proofs.taken_apart.Statement.{statement}
 use Rattle.records.proofs.taken_apart.Tie as tie
 
@@ -13,6 +15,9 @@ swap-of-requires c κs = search needs
 
 conditional-swap-of-requires : tie.Need-conditional-swap-of-requires
 conditional-swap-of-requires c κs = search needs
+
+head-of-requires : tie.Need-head-of-requires
+head-of-requires c κs = search needs
 
 expression-taken-apart-requires : tie.Need-expression-taken-apart-requires
 expression-taken-apart-requires c κs = search needs
@@ -56,7 +61,9 @@ returns-9 c = rw (c .match .keys9)
 returns-10 : tie.Need-returns-10
 unfolding decodedBy
 returns-10 c =
-    simp (ne-eqb _ _ (c .before .match .rest .1), ne-eqb _ _ (c .before .match .rest .0 .1), ne-eqb _ _ (c .before .match .rest .0 .0 .1), ne-eqb _ _ (c .before .match .rest .0 .0 .0 .1), ne-eqb _ _ (c .before .match .rest .0 .0 .0 .0 .1), ne-eqb _ _ (c .before .match .rest .0 .0 .0 .0 .0 .1), ne-eqb _ _ (c .before .match .rest .0 .0 .0 .0 .0 .0 .1), ne-eqb _ _ (c .before .match .rest .0 .0 .0 .0 .0 .0 .0 .1), ne-eqb _ _ (c .before .match .rest .0 .0 .0 .0 .0 .0 .0 .0 .1)) (c .expression-taken-apart .ensures)
+    let at-head-of = c .before in
+    let at-match = at-head-of .before in
+    simp (ne-eqb _ _ (at-match .match .rest .1), ne-eqb _ _ (at-match .match .rest .0 .1), ne-eqb _ _ (at-match .match .rest .0 .0 .1), ne-eqb _ _ (at-match .match .rest .0 .0 .0 .1), ne-eqb _ _ (at-match .match .rest .0 .0 .0 .0 .1), ne-eqb _ _ (at-match .match .rest .0 .0 .0 .0 .0 .1), ne-eqb _ _ (at-match .match .rest .0 .0 .0 .0 .0 .0 .1), ne-eqb _ _ (at-match .match .rest .0 .0 .0 .0 .0 .0 .0 .1), ne-eqb _ _ (at-match .match .rest .0 .0 .0 .0 .0 .0 .0 .0 .1)) (c .expression-taken-apart .ensures ∙ ap (expressionBy _) (at-head-of .head-of .ensures) ∙ expression-headed _ _)
 
 pub taken-apart-spec : {M : Type 1} → statement M
 taken-apart-spec =
@@ -65,6 +72,7 @@ taken-apart-spec =
     update-of-requires
     swap-of-requires
     conditional-swap-of-requires
+    head-of-requires
     expression-taken-apart-requires
     returns
     returns-2
