@@ -59,7 +59,7 @@ pub fn occurs(nodes: &[u8], n: u16, x: u16) -> bool
     requires { ⌜ Known isExpression (now nodes) n ⌝ }
     ensures { λ r. ⌜ AsExpression (now (nodes .entry)) n (λ s e. r ≡ member x (variables e)) ⌝ }
 {
-    let Decoded::Is(node) = records::node_at(&nodes[..], n) else {
+    let Decoded::Is(node) = records::expression_at(&nodes[..], n) else {
         return false;
     };
     match node {
@@ -81,7 +81,7 @@ pub fn mark_variables(nodes: &[u8], n: u16, marks: &mut [u8; 1024])
     requires { ⌜ Known isExpression (now nodes) n ⌝ }
     ensures { λ _. ⌜ AsExpression (now (nodes .entry)) n (λ s e. Adds (now (marks .entry)) (now (marks .exit)) (variables e)) ⌝ }
 {
-    let Decoded::Is(node) = records::node_at(&nodes[..], n) else {
+    let Decoded::Is(node) = records::expression_at(&nodes[..], n) else {
         return;
     };
     match node {

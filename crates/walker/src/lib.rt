@@ -120,7 +120,7 @@ fn expression(nodes: &[u8], variables: &[u8], scope: &[u8; 1024], n: u16) -> Jud
     ensures { λ r. ⌜ AsExpression (now (nodes .entry)) n
       (λ s e. (Γ : List ℕ) → Scope (now (variables .entry)) (now (scope .entry)) s Γ → Judges s Γ e r) ⌝ }
 {
-    let Decoded::Is(node) = records::node_at(&nodes[..], n) else {
+    let Decoded::Is(node) = records::expression_at(&nodes[..], n) else {
         return Judged { number: 5, place: n, secret: false };
     };
     match node {

@@ -14,7 +14,7 @@ use Rattle.names.proofs.mark_variables.Reads as mark-variables
 use Rattle.names.proofs.mark_variables.Kinds as mark-variables-kinds
 use Rattle.names.proofs.+mark_variables.Lts-mark_variables as mark-variables-lts
 use Rattle.names.proofs.mark.Reads as mark-reads
-use Rattle.records.proofs.node_at.Reads as node-at-reads
+use Rattle.records.proofs.expression_at.Reads as expression-at-reads
 use Rattle.names.proofs.+mark_variables.{statement}
 use Rattle.names.proofs.+mark_variables.Tie.{close}
 
@@ -38,20 +38,20 @@ mark-variables-below t =
     mark-variables.Pre
 
 -- src/lib.rt:81:29
-mark-variables-node-at-requires : (t : ℕ) → mark-variables-lts.Need-node-at-requires (
-  node-at-reads.Asked,
-  node-at-reads.Learnt,
+mark-variables-expression-at-requires : (t : ℕ) → mark-variables-lts.Need-expression-at-requires (
+  expression-at-reads.Asked,
+  expression-at-reads.Learnt,
   mark-reads.Asked,
   mark-reads.Learnt,
   mark-variables-below t,
   mark-variables.Post,
 ) (mark-variables-at t) mark-variables.Post
-mark-variables-node-at-requires t c κs = search needs
+mark-variables-expression-at-requires t c κs = c .before .pre .1 .standing .classed
 
 -- src/lib.rt:81:21
 mark-variables-enum-known-node : (t : ℕ) → mark-variables-lts.Need-enum-known-node (
-  node-at-reads.Asked,
-  node-at-reads.Learnt,
+  expression-at-reads.Asked,
+  expression-at-reads.Learnt,
   mark-reads.Asked,
   mark-reads.Learnt,
   mark-variables-below t,
@@ -61,8 +61,8 @@ mark-variables-enum-known-node t c = search needs
 
 -- src/lib.rt:82:9
 mark-variables-enum-told : (t : ℕ) → mark-variables-lts.Need-enum-told (
-  node-at-reads.Asked,
-  node-at-reads.Learnt,
+  expression-at-reads.Asked,
+  expression-at-reads.Learnt,
   mark-reads.Asked,
   mark-reads.Learnt,
   mark-variables-below t,
@@ -72,19 +72,19 @@ mark-variables-enum-told t c = search needs
 
 -- src/lib.rt:82:9
 mark-variables-returns : (t : ℕ) → mark-variables-lts.Need-returns (
-  node-at-reads.Asked,
-  node-at-reads.Learnt,
+  expression-at-reads.Asked,
+  expression-at-reads.Learnt,
   mark-reads.Asked,
   mark-reads.Learnt,
   mark-variables-below t,
   mark-variables.Post,
 ) (mark-variables-at t) mark-variables.Post
-mark-variables-returns t c = λ h s st. absurd (never-refused st (sym (c .before .before .node-at .ensures) ∙ c .enum-told .given .1))
+mark-variables-returns t c = λ h s st. absurd (never-refused st (sym (c .before .before .expression-at .ensures) ∙ c .enum-told .given .1))
 
 -- src/lib.rt:85:26
 mark-variables-enum-known-node-2 : (t : ℕ) → mark-variables-lts.Need-enum-known-node-2 (
-  node-at-reads.Asked,
-  node-at-reads.Learnt,
+  expression-at-reads.Asked,
+  expression-at-reads.Learnt,
   mark-reads.Asked,
   mark-reads.Learnt,
   mark-variables-below t,
@@ -94,8 +94,8 @@ mark-variables-enum-known-node-2 t c = search needs
 
 -- src/lib.rt:86:23
 mark-variables-enum-known-node-3 : (t : ℕ) → mark-variables-lts.Need-enum-known-node-3 (
-  node-at-reads.Asked,
-  node-at-reads.Learnt,
+  expression-at-reads.Asked,
+  expression-at-reads.Learnt,
   mark-reads.Asked,
   mark-reads.Learnt,
   mark-variables-below t,
@@ -105,8 +105,8 @@ mark-variables-enum-known-node-3 t c = search needs
 
 -- src/lib.rt:87:32
 mark-variables-enum-known-lvalue : (t : ℕ) → mark-variables-lts.Need-enum-known-lvalue (
-  node-at-reads.Asked,
-  node-at-reads.Learnt,
+  expression-at-reads.Asked,
+  expression-at-reads.Learnt,
   mark-reads.Asked,
   mark-reads.Learnt,
   mark-variables-below t,
@@ -116,8 +116,8 @@ mark-variables-enum-known-lvalue t c = search needs
 
 -- src/lib.rt:87:52
 mark-variables-mark-requires : (t : ℕ) → mark-variables-lts.Need-mark-requires (
-  node-at-reads.Asked,
-  node-at-reads.Learnt,
+  expression-at-reads.Asked,
+  expression-at-reads.Learnt,
   mark-reads.Asked,
   mark-reads.Learnt,
   mark-variables-below t,
@@ -127,8 +127,8 @@ mark-variables-mark-requires t c κs = search needs
 
 -- src/lib.rt:88:31
 mark-variables-enum-known-lvalue-2 : (t : ℕ) → mark-variables-lts.Need-enum-known-lvalue-2 (
-  node-at-reads.Asked,
-  node-at-reads.Learnt,
+  expression-at-reads.Asked,
+  expression-at-reads.Learnt,
   mark-reads.Asked,
   mark-reads.Learnt,
   mark-variables-below t,
@@ -138,8 +138,8 @@ mark-variables-enum-known-lvalue-2 t c = search needs
 
 -- src/lib.rt:89:17
 mark-variables-mark-requires-2 : (t : ℕ) → mark-variables-lts.Need-mark-requires-2 (
-  node-at-reads.Asked,
-  node-at-reads.Learnt,
+  expression-at-reads.Asked,
+  expression-at-reads.Learnt,
   mark-reads.Asked,
   mark-reads.Learnt,
   mark-variables-below t,
@@ -149,20 +149,20 @@ mark-variables-mark-requires-2 t c κs = search needs
 
 -- src/lib.rt:90:17
 mark-variables-mark-variables-requires : (t : ℕ) → mark-variables-lts.Need-mark-variables-requires (
-  node-at-reads.Asked,
-  node-at-reads.Learnt,
+  expression-at-reads.Asked,
+  expression-at-reads.Learnt,
   mark-reads.Asked,
   mark-reads.Learnt,
   mark-variables-below t,
   mark-variables.Post,
 ) (mark-variables-at t) mark-variables.Post
 mark-variables-mark-variables-requires t c κs =
-    let d = decoded-value (c .before .before .before .before .before .before .before .before .before .before .before .before .node-at .ensures) (c .before .before .before .before .before .before .before .before .before .before .node .given .1) (c .before .before .before .before .before .before .before .node3 .given .1) (c .before .before .before .before .lvalue2 .given .1) in (omega (arith, c .before .before .before .before .before .before .before .before .before .before .before .before .before .before .pre .0, behind-index (c .before .before .before .before .before .before .before .before .before .before .before .before .before .before .pre .1) d (λ h s r. r .1)), known-index (c .before .before .before .before .before .before .before .before .before .before .before .before .before .before .pre .1) d (λ h s r. r .1))
+    let d = decoded-value (c .before .before .before .before .before .before .before .before .before .before .before .before .expression-at .ensures) (c .before .before .before .before .before .before .before .before .before .before .node .given .1) (c .before .before .before .before .before .before .before .node3 .given .1) (c .before .before .before .before .lvalue2 .given .1) in (omega (arith, c .before .before .before .before .before .before .before .before .before .before .before .before .before .before .pre .0, behind-index (c .before .before .before .before .before .before .before .before .before .before .before .before .before .before .pre .1) d (λ h s r. r .1)), known-index (c .before .before .before .before .before .before .before .before .before .before .before .before .before .before .pre .1) d (λ h s r. r .1))
 
 -- src/lib.rt:92:30
 mark-variables-enum-known-lvalue-3 : (t : ℕ) → mark-variables-lts.Need-enum-known-lvalue-3 (
-  node-at-reads.Asked,
-  node-at-reads.Learnt,
+  expression-at-reads.Asked,
+  expression-at-reads.Learnt,
   mark-reads.Asked,
   mark-reads.Learnt,
   mark-variables-below t,
@@ -172,8 +172,8 @@ mark-variables-enum-known-lvalue-3 t c = search needs
 
 -- src/lib.rt:93:17
 mark-variables-mark-requires-3 : (t : ℕ) → mark-variables-lts.Need-mark-requires-3 (
-  node-at-reads.Asked,
-  node-at-reads.Learnt,
+  expression-at-reads.Asked,
+  expression-at-reads.Learnt,
   mark-reads.Asked,
   mark-reads.Learnt,
   mark-variables-below t,
@@ -184,20 +184,20 @@ mark-variables-mark-requires-3 t c κs = search needs
 -- src/lib.rt:94:17
 mark-variables-mark-variables-requires-2 :
     (t : ℕ) → mark-variables-lts.Need-mark-variables-requires-2 (
-      node-at-reads.Asked,
-      node-at-reads.Learnt,
+      expression-at-reads.Asked,
+      expression-at-reads.Learnt,
       mark-reads.Asked,
       mark-reads.Learnt,
       mark-variables-below t,
       mark-variables.Post,
     ) (mark-variables-at t) mark-variables.Post
 mark-variables-mark-variables-requires-2 t c κs =
-    let d = decoded-value (c .before .before .before .before .before .before .before .before .before .before .before .before .node-at .ensures) (c .before .before .before .before .before .before .before .before .before .before .node .given .1) (c .before .before .before .before .before .before .before .node3 .given .1) (c .before .before .before .before .lvalue3 .given .1) in (omega (arith, c .before .before .before .before .before .before .before .before .before .before .before .before .before .before .pre .0, behind-index (c .before .before .before .before .before .before .before .before .before .before .before .before .before .before .pre .1) d (λ h s r. r .1)), known-index (c .before .before .before .before .before .before .before .before .before .before .before .before .before .before .pre .1) d (λ h s r. r .1))
+    let d = decoded-value (c .before .before .before .before .before .before .before .before .before .before .before .before .expression-at .ensures) (c .before .before .before .before .before .before .before .before .before .before .node .given .1) (c .before .before .before .before .before .before .before .node3 .given .1) (c .before .before .before .before .lvalue3 .given .1) in (omega (arith, c .before .before .before .before .before .before .before .before .before .before .before .before .before .before .pre .0, behind-index (c .before .before .before .before .before .before .before .before .before .before .before .before .before .before .pre .1) d (λ h s r. r .1)), known-index (c .before .before .before .before .before .before .before .before .before .before .before .before .before .before .pre .1) d (λ h s r. r .1))
 
 -- src/lib.rt:97:22
 mark-variables-enum-known-node-4 : (t : ℕ) → mark-variables-lts.Need-enum-known-node-4 (
-  node-at-reads.Asked,
-  node-at-reads.Learnt,
+  expression-at-reads.Asked,
+  expression-at-reads.Learnt,
   mark-reads.Asked,
   mark-reads.Learnt,
   mark-variables-below t,
@@ -207,8 +207,8 @@ mark-variables-enum-known-node-4 t c = search needs
 
 -- src/lib.rt:98:24
 mark-variables-enum-known-node-5 : (t : ℕ) → mark-variables-lts.Need-enum-known-node-5 (
-  node-at-reads.Asked,
-  node-at-reads.Learnt,
+  expression-at-reads.Asked,
+  expression-at-reads.Learnt,
   mark-reads.Asked,
   mark-reads.Learnt,
   mark-variables-below t,
@@ -219,33 +219,33 @@ mark-variables-enum-known-node-5 t c = search needs
 -- src/lib.rt:99:13
 mark-variables-mark-variables-requires-3 :
     (t : ℕ) → mark-variables-lts.Need-mark-variables-requires-3 (
-      node-at-reads.Asked,
-      node-at-reads.Learnt,
+      expression-at-reads.Asked,
+      expression-at-reads.Learnt,
       mark-reads.Asked,
       mark-reads.Learnt,
       mark-variables-below t,
       mark-variables.Post,
     ) (mark-variables-at t) mark-variables.Post
 mark-variables-mark-variables-requires-3 t c κs =
-    let d = decoded (c .before .before .before .before .before .before .before .node-at .ensures) (c .before .before .before .before .before .node .given .1) (c .before .before .node5 .given .1) in (omega (arith, c .before .before .before .before .before .before .before .before .before .pre .0, behind (c .before .before .before .before .before .before .before .before .before .pre .1) d (λ h s r. r .0)), known-child (c .before .before .before .before .before .before .before .before .before .pre .1) d (λ h s r. r .0))
+    let d = decoded (c .before .before .before .before .before .before .before .expression-at .ensures) (c .before .before .before .before .before .node .given .1) (c .before .before .node5 .given .1) in (omega (arith, c .before .before .before .before .before .before .before .before .before .pre .0, behind (c .before .before .before .before .before .before .before .before .before .pre .1) d (λ h s r. r .0)), known-child (c .before .before .before .before .before .before .before .before .before .pre .1) d (λ h s r. r .0))
 
 -- src/lib.rt:100:13
 mark-variables-mark-variables-requires-4 :
     (t : ℕ) → mark-variables-lts.Need-mark-variables-requires-4 (
-      node-at-reads.Asked,
-      node-at-reads.Learnt,
+      expression-at-reads.Asked,
+      expression-at-reads.Learnt,
       mark-reads.Asked,
       mark-reads.Learnt,
       mark-variables-below t,
       mark-variables.Post,
     ) (mark-variables-at t) mark-variables.Post
 mark-variables-mark-variables-requires-4 t c κs =
-    let d = decoded (c .before .before .before .before .before .before .before .before .before .node-at .ensures) (c .before .before .before .before .before .before .before .node .given .1) (c .before .before .before .before .node5 .given .1) in (omega (arith, c .before .before .before .before .before .before .before .before .before .before .before .pre .0, behind (c .before .before .before .before .before .before .before .before .before .before .before .pre .1) d (λ h s r. r .1)), known-child (c .before .before .before .before .before .before .before .before .before .before .before .pre .1) d (λ h s r. r .1))
+    let d = decoded (c .before .before .before .before .before .before .before .before .before .expression-at .ensures) (c .before .before .before .before .before .before .before .node .given .1) (c .before .before .before .before .node5 .given .1) in (omega (arith, c .before .before .before .before .before .before .before .before .before .before .before .pre .0, behind (c .before .before .before .before .before .before .before .before .before .before .before .pre .1) d (λ h s r. r .1)), known-child (c .before .before .before .before .before .before .before .before .before .before .before .pre .1) d (λ h s r. r .1))
 
 -- src/lib.rt:102:21
 mark-variables-enum-known-node-6 : (t : ℕ) → mark-variables-lts.Need-enum-known-node-6 (
-  node-at-reads.Asked,
-  node-at-reads.Learnt,
+  expression-at-reads.Asked,
+  expression-at-reads.Learnt,
   mark-reads.Asked,
   mark-reads.Learnt,
   mark-variables-below t,
@@ -256,44 +256,44 @@ mark-variables-enum-known-node-6 t c = search needs
 -- src/lib.rt:102:34
 mark-variables-mark-variables-requires-5 :
     (t : ℕ) → mark-variables-lts.Need-mark-variables-requires-5 (
-      node-at-reads.Asked,
-      node-at-reads.Learnt,
+      expression-at-reads.Asked,
+      expression-at-reads.Learnt,
       mark-reads.Asked,
       mark-reads.Learnt,
       mark-variables-below t,
       mark-variables.Post,
     ) (mark-variables-at t) mark-variables.Post
 mark-variables-mark-variables-requires-5 t c κs =
-    let d = decoded (c .before .before .before .before .before .before .before .node-at .ensures) (c .before .before .before .before .before .node .given .1) (c .before .before .node6 .given .1) in (omega (arith, c .before .before .before .before .before .before .before .before .before .pre .0, behind (c .before .before .before .before .before .before .before .before .before .pre .1) d (λ h s r. r)), known-child (c .before .before .before .before .before .before .before .before .before .pre .1) d (λ h s r. r))
+    let d = decoded (c .before .before .before .before .before .before .before .expression-at .ensures) (c .before .before .before .before .before .node .given .1) (c .before .before .node6 .given .1) in (omega (arith, c .before .before .before .before .before .before .before .before .before .pre .0, behind (c .before .before .before .before .before .before .before .before .before .pre .1) d (λ h s r. r)), known-child (c .before .before .before .before .before .before .before .before .before .pre .1) d (λ h s r. r))
 
 -- src/lib.rt:77:1
 mark-variables-returns-2 : (t : ℕ) → mark-variables-lts.Need-returns-2 (
-  node-at-reads.Asked,
-  node-at-reads.Learnt,
+  expression-at-reads.Asked,
+  expression-at-reads.Learnt,
   mark-reads.Asked,
   mark-reads.Learnt,
   mark-variables-below t,
   mark-variables.Post,
 ) (mark-variables-at t) mark-variables.Post
 mark-variables-returns-2 t c =
-    λ h s st. rw (names-constant st (decoded (c .before .before .before .before .before .before .node-at .ensures) (c .before .before .before .before .node .given .1) (c .before .node2 .given .1))) (adds-none _)
+    λ h s st. rw (names-constant st (decoded (c .before .before .before .before .before .before .expression-at .ensures) (c .before .before .before .before .node .given .1) (c .before .node2 .given .1))) (adds-none _)
 
 -- src/lib.rt:77:1
 mark-variables-returns-3 : (t : ℕ) → mark-variables-lts.Need-returns-3 (
-  node-at-reads.Asked,
-  node-at-reads.Learnt,
+  expression-at-reads.Asked,
+  expression-at-reads.Learnt,
   mark-reads.Asked,
   mark-reads.Learnt,
   mark-variables-below t,
   mark-variables.Post,
 ) (mark-variables-at t) mark-variables.Post
 mark-variables-returns-3 t c =
-    λ h s st. let d = decoded-value (c .before .before .before .before .before .before .before .before .before .before .before .node-at .ensures) (c .before .before .before .before .before .before .before .before .before .node .given .1) (c .before .before .before .before .before .before .node3 .given .1) (c .before .before .before .lvalue .given .1) in rw (names-variable st d) (c .mark .ensures (name-small st (refers st d)))
+    λ h s st. let d = decoded-value (c .before .before .before .before .before .before .before .before .before .before .before .expression-at .ensures) (c .before .before .before .before .before .before .before .before .before .node .given .1) (c .before .before .before .before .before .before .node3 .given .1) (c .before .before .before .lvalue .given .1) in rw (names-variable st d) (c .mark .ensures (name-small st (refers st d)))
 
 -- src/lib.rt:77:1
 mark-variables-returns-4 : (t : ℕ) → mark-variables-lts.Need-returns-4 (
-  node-at-reads.Asked,
-  node-at-reads.Learnt,
+  expression-at-reads.Asked,
+  expression-at-reads.Learnt,
   mark-reads.Asked,
   mark-reads.Learnt,
   mark-variables-below t,
@@ -301,13 +301,13 @@ mark-variables-returns-4 : (t : ℕ) → mark-variables-lts.Need-returns-4 (
 ) (mark-variables-at t) mark-variables.Post
 mark-variables-returns-4 t c =
     λ h s st.
-    let d = decoded-value (c .before .before .before .before .before .before .before .before .before .before .before .before .before .node-at .ensures) (c .before .before .before .before .before .before .before .before .before .before .before .node .given .1) (c .before .before .before .before .before .before .before .before .node3 .given .1) (c .before .before .before .before .before .lvalue2 .given .1) in
+    let d = decoded-value (c .before .before .before .before .before .before .before .before .before .before .before .before .before .expression-at .ensures) (c .before .before .before .before .before .before .before .before .before .before .before .node .given .1) (c .before .before .before .before .before .before .before .before .node3 .given .1) (c .before .before .before .before .before .lvalue2 .given .1) in
     rw (names-element st d) (adds-first (c .before .before .mark2 .ensures (name-small st (refers st d .0))) (c .mark-variables .ensures h s (standing-child st (refers st d .1))))
 
 -- src/lib.rt:77:1
 mark-variables-returns-5 : (t : ℕ) → mark-variables-lts.Need-returns-5 (
-  node-at-reads.Asked,
-  node-at-reads.Learnt,
+  expression-at-reads.Asked,
+  expression-at-reads.Learnt,
   mark-reads.Asked,
   mark-reads.Learnt,
   mark-variables-below t,
@@ -315,25 +315,25 @@ mark-variables-returns-5 : (t : ℕ) → mark-variables-lts.Need-returns-5 (
 ) (mark-variables-at t) mark-variables.Post
 mark-variables-returns-5 t c =
     λ h s st.
-    let d = decoded-value (c .before .before .before .before .before .before .before .before .before .before .before .before .before .node-at .ensures) (c .before .before .before .before .before .before .before .before .before .before .before .node .given .1) (c .before .before .before .before .before .before .before .before .node3 .given .1) (c .before .before .before .before .before .lvalue3 .given .1) in
+    let d = decoded-value (c .before .before .before .before .before .before .before .before .before .before .before .before .before .expression-at .ensures) (c .before .before .before .before .before .before .before .before .before .before .before .node .given .1) (c .before .before .before .before .before .before .before .before .node3 .given .1) (c .before .before .before .before .before .lvalue3 .given .1) in
     rw (names-unsafe st d) (adds-first (c .before .before .mark3 .ensures (name-small st (refers st d .0))) (c .mark-variables2 .ensures h s (standing-child st (refers st d .1))))
 
 -- src/lib.rt:77:1
 mark-variables-returns-6 : (t : ℕ) → mark-variables-lts.Need-returns-6 (
-  node-at-reads.Asked,
-  node-at-reads.Learnt,
+  expression-at-reads.Asked,
+  expression-at-reads.Learnt,
   mark-reads.Asked,
   mark-reads.Learnt,
   mark-variables-below t,
   mark-variables.Post,
 ) (mark-variables-at t) mark-variables.Post
 mark-variables-returns-6 t c =
-    λ h s st. rw (names-size st (decoded (c .before .before .before .before .before .before .node-at .ensures) (c .before .before .before .before .node .given .1) (c .before .node4 .given .1))) (adds-none _)
+    λ h s st. rw (names-size st (decoded (c .before .before .before .before .before .before .expression-at .ensures) (c .before .before .before .before .node .given .1) (c .before .node4 .given .1))) (adds-none _)
 
 -- src/lib.rt:77:1
 mark-variables-returns-7 : (t : ℕ) → mark-variables-lts.Need-returns-7 (
-  node-at-reads.Asked,
-  node-at-reads.Learnt,
+  expression-at-reads.Asked,
+  expression-at-reads.Learnt,
   mark-reads.Asked,
   mark-reads.Learnt,
   mark-variables-below t,
@@ -341,37 +341,37 @@ mark-variables-returns-7 : (t : ℕ) → mark-variables-lts.Need-returns-7 (
 ) (mark-variables-at t) mark-variables.Post
 mark-variables-returns-7 t c =
     λ h s st.
-    let d = decoded (c .before .before .before .before .before .before .before .before .before .before .node-at .ensures) (c .before .before .before .before .before .before .before .before .node .given .1) (c .before .before .before .before .before .node5 .given .1) in
+    let d = decoded (c .before .before .before .before .before .before .before .before .before .before .expression-at .ensures) (c .before .before .before .before .before .before .before .before .node .given .1) (c .before .before .before .before .before .node5 .given .1) in
     rw (names-binary st d) (adds-both (c .before .before .mark-variables3 .ensures h s (standing-child st (refers st d .0))) (c .mark-variables4 .ensures h s (standing-child st (refers st d .1))))
 
 -- src/lib.rt:77:1
 mark-variables-returns-8 : (t : ℕ) → mark-variables-lts.Need-returns-8 (
-  node-at-reads.Asked,
-  node-at-reads.Learnt,
+  expression-at-reads.Asked,
+  expression-at-reads.Learnt,
   mark-reads.Asked,
   mark-reads.Learnt,
   mark-variables-below t,
   mark-variables.Post,
 ) (mark-variables-at t) mark-variables.Post
 mark-variables-returns-8 t c =
-    λ h s st. let d = decoded (c .before .before .before .before .before .before .before .before .node-at .ensures) (c .before .before .before .before .before .before .node .given .1) (c .before .before .before .node6 .given .1) in rw (names-not st d) (c .mark-variables5 .ensures h s (standing-child st (refers st d)))
+    λ h s st. let d = decoded (c .before .before .before .before .before .before .before .before .expression-at .ensures) (c .before .before .before .before .before .before .node .given .1) (c .before .before .before .node6 .given .1) in rw (names-not st d) (c .mark-variables5 .ensures h s (standing-child st (refers st d)))
 
 -- src/lib.rt:77:1
 mark-variables-returns-9 : (t : ℕ) → mark-variables-lts.Need-returns-9 (
-  node-at-reads.Asked,
-  node-at-reads.Learnt,
+  expression-at-reads.Asked,
+  expression-at-reads.Learnt,
   mark-reads.Asked,
   mark-reads.Learnt,
   mark-variables-below t,
   mark-variables.Post,
 ) (mark-variables-at t) mark-variables.Post
 mark-variables-returns-9 t c =
-    λ h s st. absurd (no-statement-arm (sym (c .before .before .before .before .node-at .ensures) ∙ c .before .before .node .given .1) st (c .match2 .keys6))
+    λ h s st. absurd (no-statement-arm (sym (c .before .before .before .before .expression-at .ensures) ∙ c .before .before .node .given .1) st (c .match2 .keys6))
 
 pub +mark-variables-spec : {M : Type 1} → statement M
 +mark-variables-spec = close μ-mark-variables λ t. mark-variables-lts.spec (
-  node-at-reads.Asked,
-  node-at-reads.Learnt,
+  expression-at-reads.Asked,
+  expression-at-reads.Learnt,
   mark-reads.Asked,
   mark-reads.Learnt,
   mark-variables-below t,
@@ -379,7 +379,7 @@ pub +mark-variables-spec : {M : Type 1} → statement M
 )
     (mark-variables-at t)
     mark-variables.Post
-    (mark-variables-node-at-requires t)
+    (mark-variables-expression-at-requires t)
     (mark-variables-enum-known-node t)
     (mark-variables-enum-told t)
     (mark-variables-returns t)

@@ -13,7 +13,7 @@ use borrow.Fn.PlainCycle.{Measures, is, falls, and}
 use Rattle.names.proofs.occurs.Reads as occurs
 use Rattle.names.proofs.occurs.Kinds as occurs-kinds
 use Rattle.names.proofs.+occurs.Lts-occurs as occurs-lts
-use Rattle.records.proofs.node_at.Reads as node-at-reads
+use Rattle.records.proofs.expression_at.Reads as expression-at-reads
 use Rattle.names.proofs.+occurs.{statement}
 use Rattle.names.proofs.+occurs.Tie.{close}
 
@@ -27,18 +27,18 @@ abbrev occurs-below : ℕ → In 1 occurs-kinds.ps
 occurs-below t = and 1 occurs-kinds.ps (falls 1 occurs-kinds.ps _<_ μ-occurs t) occurs.Pre
 
 -- src/lib.rt:47:29
-occurs-node-at-requires : (t : ℕ) → occurs-lts.Need-node-at-requires (
-  node-at-reads.Asked,
-  node-at-reads.Learnt,
+occurs-expression-at-requires : (t : ℕ) → occurs-lts.Need-expression-at-requires (
+  expression-at-reads.Asked,
+  expression-at-reads.Learnt,
   occurs-below t,
   occurs.Post,
 ) (occurs-at t) occurs.Post
-occurs-node-at-requires t c κs = search needs
+occurs-expression-at-requires t c κs = c .before .pre .1 .standing .classed
 
 -- src/lib.rt:47:21
 occurs-enum-known-node : (t : ℕ) → occurs-lts.Need-enum-known-node (
-  node-at-reads.Asked,
-  node-at-reads.Learnt,
+  expression-at-reads.Asked,
+  expression-at-reads.Learnt,
   occurs-below t,
   occurs.Post,
 ) (occurs-at t) occurs.Post
@@ -46,8 +46,8 @@ occurs-enum-known-node t c = search needs
 
 -- src/lib.rt:48:9
 occurs-enum-told : (t : ℕ) → occurs-lts.Need-enum-told (
-  node-at-reads.Asked,
-  node-at-reads.Learnt,
+  expression-at-reads.Asked,
+  expression-at-reads.Learnt,
   occurs-below t,
   occurs.Post,
 ) (occurs-at t) occurs.Post
@@ -55,17 +55,17 @@ occurs-enum-told t c = search needs
 
 -- src/lib.rt:48:9
 occurs-returns : (t : ℕ) → occurs-lts.Need-returns (
-  node-at-reads.Asked,
-  node-at-reads.Learnt,
+  expression-at-reads.Asked,
+  expression-at-reads.Learnt,
   occurs-below t,
   occurs.Post,
 ) (occurs-at t) occurs.Post
-occurs-returns t c = λ h s st. absurd (never-refused st (sym (c .before .before .node-at .ensures) ∙ c .enum-told .given .1))
+occurs-returns t c = λ h s st. absurd (never-refused st (sym (c .before .before .expression-at .ensures) ∙ c .enum-told .given .1))
 
 -- src/lib.rt:51:26
 occurs-enum-known-node-2 : (t : ℕ) → occurs-lts.Need-enum-known-node-2 (
-  node-at-reads.Asked,
-  node-at-reads.Learnt,
+  expression-at-reads.Asked,
+  expression-at-reads.Learnt,
   occurs-below t,
   occurs.Post,
 ) (occurs-at t) occurs.Post
@@ -73,8 +73,8 @@ occurs-enum-known-node-2 t c = search needs
 
 -- src/lib.rt:52:23
 occurs-enum-known-node-3 : (t : ℕ) → occurs-lts.Need-enum-known-node-3 (
-  node-at-reads.Asked,
-  node-at-reads.Learnt,
+  expression-at-reads.Asked,
+  expression-at-reads.Learnt,
   occurs-below t,
   occurs.Post,
 ) (occurs-at t) occurs.Post
@@ -82,8 +82,8 @@ occurs-enum-known-node-3 t c = search needs
 
 -- src/lib.rt:53:32
 occurs-enum-known-lvalue : (t : ℕ) → occurs-lts.Need-enum-known-lvalue (
-  node-at-reads.Asked,
-  node-at-reads.Learnt,
+  expression-at-reads.Asked,
+  expression-at-reads.Learnt,
   occurs-below t,
   occurs.Post,
 ) (occurs-at t) occurs.Post
@@ -91,8 +91,8 @@ occurs-enum-known-lvalue t c = search needs
 
 -- src/lib.rt:54:31
 occurs-enum-known-lvalue-2 : (t : ℕ) → occurs-lts.Need-enum-known-lvalue-2 (
-  node-at-reads.Asked,
-  node-at-reads.Learnt,
+  expression-at-reads.Asked,
+  expression-at-reads.Learnt,
   occurs-below t,
   occurs.Post,
 ) (occurs-at t) occurs.Post
@@ -100,18 +100,18 @@ occurs-enum-known-lvalue-2 t c = search needs
 
 -- src/lib.rt:54:69
 occurs-occurs-requires : (t : ℕ) → occurs-lts.Need-occurs-requires (
-  node-at-reads.Asked,
-  node-at-reads.Learnt,
+  expression-at-reads.Asked,
+  expression-at-reads.Learnt,
   occurs-below t,
   occurs.Post,
 ) (occurs-at t) occurs.Post
 occurs-occurs-requires t c κs =
-    let d = decoded-value (c .before .before .before .before .before .before .before .before .before .before .node-at .ensures) (c .before .before .before .before .before .before .before .before .node .given .1) (c .before .before .before .before .before .node3 .given .1) (c .before .before .lvalue2 .given .1) in (omega (arith, c .before .before .before .before .before .before .before .before .before .before .before .before .pre .0, behind-index (c .before .before .before .before .before .before .before .before .before .before .before .before .pre .1) d (λ h s r. r .1)), known-index (c .before .before .before .before .before .before .before .before .before .before .before .before .pre .1) d (λ h s r. r .1))
+    let d = decoded-value (c .before .before .before .before .before .before .before .before .before .before .expression-at .ensures) (c .before .before .before .before .before .before .before .before .node .given .1) (c .before .before .before .before .before .node3 .given .1) (c .before .before .lvalue2 .given .1) in (omega (arith, c .before .before .before .before .before .before .before .before .before .before .before .before .pre .0, behind-index (c .before .before .before .before .before .before .before .before .before .before .before .before .pre .1) d (λ h s r. r .1)), known-index (c .before .before .before .before .before .before .before .before .before .before .before .before .pre .1) d (λ h s r. r .1))
 
 -- src/lib.rt:55:30
 occurs-enum-known-lvalue-3 : (t : ℕ) → occurs-lts.Need-enum-known-lvalue-3 (
-  node-at-reads.Asked,
-  node-at-reads.Learnt,
+  expression-at-reads.Asked,
+  expression-at-reads.Learnt,
   occurs-below t,
   occurs.Post,
 ) (occurs-at t) occurs.Post
@@ -119,18 +119,18 @@ occurs-enum-known-lvalue-3 t c = search needs
 
 -- src/lib.rt:55:68
 occurs-occurs-requires-2 : (t : ℕ) → occurs-lts.Need-occurs-requires-2 (
-  node-at-reads.Asked,
-  node-at-reads.Learnt,
+  expression-at-reads.Asked,
+  expression-at-reads.Learnt,
   occurs-below t,
   occurs.Post,
 ) (occurs-at t) occurs.Post
 occurs-occurs-requires-2 t c κs =
-    let d = decoded-value (c .before .before .before .before .before .before .before .before .before .before .node-at .ensures) (c .before .before .before .before .before .before .before .before .node .given .1) (c .before .before .before .before .before .node3 .given .1) (c .before .before .lvalue3 .given .1) in (omega (arith, c .before .before .before .before .before .before .before .before .before .before .before .before .pre .0, behind-index (c .before .before .before .before .before .before .before .before .before .before .before .before .pre .1) d (λ h s r. r .1)), known-index (c .before .before .before .before .before .before .before .before .before .before .before .before .pre .1) d (λ h s r. r .1))
+    let d = decoded-value (c .before .before .before .before .before .before .before .before .before .before .expression-at .ensures) (c .before .before .before .before .before .before .before .before .node .given .1) (c .before .before .before .before .before .node3 .given .1) (c .before .before .lvalue3 .given .1) in (omega (arith, c .before .before .before .before .before .before .before .before .before .before .before .before .pre .0, behind-index (c .before .before .before .before .before .before .before .before .before .before .before .before .pre .1) d (λ h s r. r .1)), known-index (c .before .before .before .before .before .before .before .before .before .before .before .before .pre .1) d (λ h s r. r .1))
 
 -- src/lib.rt:57:22
 occurs-enum-known-node-4 : (t : ℕ) → occurs-lts.Need-enum-known-node-4 (
-  node-at-reads.Asked,
-  node-at-reads.Learnt,
+  expression-at-reads.Asked,
+  expression-at-reads.Learnt,
   occurs-below t,
   occurs.Post,
 ) (occurs-at t) occurs.Post
@@ -138,8 +138,8 @@ occurs-enum-known-node-4 t c = search needs
 
 -- src/lib.rt:58:24
 occurs-enum-known-node-5 : (t : ℕ) → occurs-lts.Need-enum-known-node-5 (
-  node-at-reads.Asked,
-  node-at-reads.Learnt,
+  expression-at-reads.Asked,
+  expression-at-reads.Learnt,
   occurs-below t,
   occurs.Post,
 ) (occurs-at t) occurs.Post
@@ -147,28 +147,28 @@ occurs-enum-known-node-5 t c = search needs
 
 -- src/lib.rt:58:51
 occurs-occurs-requires-3 : (t : ℕ) → occurs-lts.Need-occurs-requires-3 (
-  node-at-reads.Asked,
-  node-at-reads.Learnt,
+  expression-at-reads.Asked,
+  expression-at-reads.Learnt,
   occurs-below t,
   occurs.Post,
 ) (occurs-at t) occurs.Post
 occurs-occurs-requires-3 t c κs =
-    let d = decoded (c .before .before .before .before .before .before .node-at .ensures) (c .before .before .before .before .node .given .1) (c .before .node5 .given .1) in (omega (arith, c .before .before .before .before .before .before .before .before .pre .0, behind (c .before .before .before .before .before .before .before .before .pre .1) d (λ h s r. r .0)), known-child (c .before .before .before .before .before .before .before .before .pre .1) d (λ h s r. r .0))
+    let d = decoded (c .before .before .before .before .before .before .expression-at .ensures) (c .before .before .before .before .node .given .1) (c .before .node5 .given .1) in (omega (arith, c .before .before .before .before .before .before .before .before .pre .0, behind (c .before .before .before .before .before .before .before .before .pre .1) d (λ h s r. r .0)), known-child (c .before .before .before .before .before .before .before .before .pre .1) d (λ h s r. r .0))
 
 -- src/lib.rt:58:77
 occurs-occurs-requires-4 : (t : ℕ) → occurs-lts.Need-occurs-requires-4 (
-  node-at-reads.Asked,
-  node-at-reads.Learnt,
+  expression-at-reads.Asked,
+  expression-at-reads.Learnt,
   occurs-below t,
   occurs.Post,
 ) (occurs-at t) occurs.Post
 occurs-occurs-requires-4 t c κs =
-    let d = decoded (c .before .before .before .before .before .before .before .before .node-at .ensures) (c .before .before .before .before .before .before .node .given .1) (c .before .before .before .node5 .given .1) in (omega (arith, c .before .before .before .before .before .before .before .before .before .before .pre .0, behind (c .before .before .before .before .before .before .before .before .before .before .pre .1) d (λ h s r. r .1)), known-child (c .before .before .before .before .before .before .before .before .before .before .pre .1) d (λ h s r. r .1))
+    let d = decoded (c .before .before .before .before .before .before .before .before .expression-at .ensures) (c .before .before .before .before .before .before .node .given .1) (c .before .before .before .node5 .given .1) in (omega (arith, c .before .before .before .before .before .before .before .before .before .before .pre .0, behind (c .before .before .before .before .before .before .before .before .before .before .pre .1) d (λ h s r. r .1)), known-child (c .before .before .before .before .before .before .before .before .before .before .pre .1) d (λ h s r. r .1))
 
 -- src/lib.rt:59:21
 occurs-enum-known-node-6 : (t : ℕ) → occurs-lts.Need-enum-known-node-6 (
-  node-at-reads.Asked,
-  node-at-reads.Learnt,
+  expression-at-reads.Asked,
+  expression-at-reads.Learnt,
   occurs-below t,
   occurs.Post,
 ) (occurs-at t) occurs.Post
@@ -176,136 +176,136 @@ occurs-enum-known-node-6 t c = search needs
 
 -- src/lib.rt:59:34
 occurs-occurs-requires-5 : (t : ℕ) → occurs-lts.Need-occurs-requires-5 (
-  node-at-reads.Asked,
-  node-at-reads.Learnt,
+  expression-at-reads.Asked,
+  expression-at-reads.Learnt,
   occurs-below t,
   occurs.Post,
 ) (occurs-at t) occurs.Post
 occurs-occurs-requires-5 t c κs =
-    let d = decoded (c .before .before .before .before .before .before .node-at .ensures) (c .before .before .before .before .node .given .1) (c .before .node6 .given .1) in (omega (arith, c .before .before .before .before .before .before .before .before .pre .0, behind (c .before .before .before .before .before .before .before .before .pre .1) d (λ h s r. r)), known-child (c .before .before .before .before .before .before .before .before .pre .1) d (λ h s r. r))
+    let d = decoded (c .before .before .before .before .before .before .expression-at .ensures) (c .before .before .before .before .node .given .1) (c .before .node6 .given .1) in (omega (arith, c .before .before .before .before .before .before .before .before .pre .0, behind (c .before .before .before .before .before .before .before .before .pre .1) d (λ h s r. r)), known-child (c .before .before .before .before .before .before .before .before .pre .1) d (λ h s r. r))
 
 -- src/lib.rt:43:1
 occurs-returns-2 : (t : ℕ) → occurs-lts.Need-returns-2 (
-  node-at-reads.Asked,
-  node-at-reads.Learnt,
+  expression-at-reads.Asked,
+  expression-at-reads.Learnt,
   occurs-below t,
   occurs.Post,
 ) (occurs-at t) occurs.Post
 unfolding member
 occurs-returns-2 t c =
-    λ h s st. rw (names-constant st (decoded (c .before .before .before .before .before .before .node-at .ensures) (c .before .before .before .before .node .given .1) (c .before .node2 .given .1)))
+    λ h s st. rw (names-constant st (decoded (c .before .before .before .before .before .before .expression-at .ensures) (c .before .before .before .before .node .given .1) (c .before .node2 .given .1)))
 
 -- src/lib.rt:43:1
 occurs-returns-3 : (t : ℕ) → occurs-lts.Need-returns-3 (
-  node-at-reads.Asked,
-  node-at-reads.Learnt,
+  expression-at-reads.Asked,
+  expression-at-reads.Learnt,
   occurs-below t,
   occurs.Post,
 ) (occurs-at t) occurs.Post
 occurs-returns-3 t c =
-    λ h s st. rw (names-variable st (decoded-value (c .before .before .before .before .before .before .before .before .before .node-at .ensures) (c .before .before .before .before .before .before .before .node .given .1) (c .before .before .before .before .node3 .given .1) (c .before .lvalue .given .1))) (member-one _ _)
+    λ h s st. rw (names-variable st (decoded-value (c .before .before .before .before .before .before .before .before .before .expression-at .ensures) (c .before .before .before .before .before .before .before .node .given .1) (c .before .before .before .before .node3 .given .1) (c .before .lvalue .given .1))) (member-one _ _)
 
 -- src/lib.rt:43:1
 occurs-returns-4 : (t : ℕ) → occurs-lts.Need-returns-4 (
-  node-at-reads.Asked,
-  node-at-reads.Learnt,
+  expression-at-reads.Asked,
+  expression-at-reads.Learnt,
   occurs-below t,
   occurs.Post,
 ) (occurs-at t) occurs.Post
 occurs-returns-4 t c =
-    λ h s st. rw (names-element st (decoded-value (c .before .before .before .before .before .before .before .before .before .before .node-at .ensures) (c .before .before .before .before .before .before .before .before .node .given .1) (c .before .before .before .before .before .node3 .given .1) (c .before .before .lvalue2 .given .1))) (member-here _ _ (c .if1 .taken))
+    λ h s st. rw (names-element st (decoded-value (c .before .before .before .before .before .before .before .before .before .before .expression-at .ensures) (c .before .before .before .before .before .before .before .before .node .given .1) (c .before .before .before .before .before .node3 .given .1) (c .before .before .lvalue2 .given .1))) (member-here _ _ (c .if1 .taken))
 
 -- src/lib.rt:43:1
 occurs-returns-5 : (t : ℕ) → occurs-lts.Need-returns-5 (
-  node-at-reads.Asked,
-  node-at-reads.Learnt,
+  expression-at-reads.Asked,
+  expression-at-reads.Learnt,
   occurs-below t,
   occurs.Post,
 ) (occurs-at t) occurs.Post
 occurs-returns-5 t c =
-    λ h s st. let d = decoded-value (c .before .before .before .before .before .before .before .before .before .before .before .node-at .ensures) (c .before .before .before .before .before .before .before .before .before .node .given .1) (c .before .before .before .before .before .before .node3 .given .1) (c .before .before .before .lvalue2 .given .1) in rw (names-element st d) (member-later _ _ (c .before .if1 .left) (c .occurs .ensures h s (standing-child st (refers st d .1))))
+    λ h s st. let d = decoded-value (c .before .before .before .before .before .before .before .before .before .before .before .expression-at .ensures) (c .before .before .before .before .before .before .before .before .before .node .given .1) (c .before .before .before .before .before .before .node3 .given .1) (c .before .before .before .lvalue2 .given .1) in rw (names-element st d) (member-later _ _ (c .before .if1 .left) (c .occurs .ensures h s (standing-child st (refers st d .1))))
 
 -- src/lib.rt:43:1
 occurs-returns-6 : (t : ℕ) → occurs-lts.Need-returns-6 (
-  node-at-reads.Asked,
-  node-at-reads.Learnt,
+  expression-at-reads.Asked,
+  expression-at-reads.Learnt,
   occurs-below t,
   occurs.Post,
 ) (occurs-at t) occurs.Post
 occurs-returns-6 t c =
-    λ h s st. rw (names-unsafe st (decoded-value (c .before .before .before .before .before .before .before .before .before .before .node-at .ensures) (c .before .before .before .before .before .before .before .before .node .given .1) (c .before .before .before .before .before .node3 .given .1) (c .before .before .lvalue3 .given .1))) (member-here _ _ (c .if2 .taken))
+    λ h s st. rw (names-unsafe st (decoded-value (c .before .before .before .before .before .before .before .before .before .before .expression-at .ensures) (c .before .before .before .before .before .before .before .before .node .given .1) (c .before .before .before .before .before .node3 .given .1) (c .before .before .lvalue3 .given .1))) (member-here _ _ (c .if2 .taken))
 
 -- src/lib.rt:43:1
 occurs-returns-7 : (t : ℕ) → occurs-lts.Need-returns-7 (
-  node-at-reads.Asked,
-  node-at-reads.Learnt,
+  expression-at-reads.Asked,
+  expression-at-reads.Learnt,
   occurs-below t,
   occurs.Post,
 ) (occurs-at t) occurs.Post
 occurs-returns-7 t c =
-    λ h s st. let d = decoded-value (c .before .before .before .before .before .before .before .before .before .before .before .node-at .ensures) (c .before .before .before .before .before .before .before .before .before .node .given .1) (c .before .before .before .before .before .before .node3 .given .1) (c .before .before .before .lvalue3 .given .1) in rw (names-unsafe st d) (member-later _ _ (c .before .if2 .left) (c .occurs2 .ensures h s (standing-child st (refers st d .1))))
+    λ h s st. let d = decoded-value (c .before .before .before .before .before .before .before .before .before .before .before .expression-at .ensures) (c .before .before .before .before .before .before .before .before .before .node .given .1) (c .before .before .before .before .before .before .node3 .given .1) (c .before .before .before .lvalue3 .given .1) in rw (names-unsafe st d) (member-later _ _ (c .before .if2 .left) (c .occurs2 .ensures h s (standing-child st (refers st d .1))))
 
 -- src/lib.rt:43:1
 occurs-returns-8 : (t : ℕ) → occurs-lts.Need-returns-8 (
-  node-at-reads.Asked,
-  node-at-reads.Learnt,
+  expression-at-reads.Asked,
+  expression-at-reads.Learnt,
   occurs-below t,
   occurs.Post,
 ) (occurs-at t) occurs.Post
 unfolding member
 occurs-returns-8 t c =
-    λ h s st. rw (names-size st (decoded (c .before .before .before .before .before .before .node-at .ensures) (c .before .before .before .before .node .given .1) (c .before .node4 .given .1)))
+    λ h s st. rw (names-size st (decoded (c .before .before .before .before .before .before .expression-at .ensures) (c .before .before .before .before .node .given .1) (c .before .node4 .given .1)))
 
 -- src/lib.rt:43:1
 occurs-returns-9 : (t : ℕ) → occurs-lts.Need-returns-9 (
-  node-at-reads.Asked,
-  node-at-reads.Learnt,
+  expression-at-reads.Asked,
+  expression-at-reads.Learnt,
   occurs-below t,
   occurs.Post,
 ) (occurs-at t) occurs.Post
 occurs-returns-9 t c =
-    λ h s st. let d = decoded (c .before .before .before .before .before .before .before .before .node-at .ensures) (c .before .before .before .before .before .before .node .given .1) (c .before .before .before .node5 .given .1) in rw (names-binary st d) (member-left _ _ _ (c .before .occurs3 .ensures h s (standing-child st (refers st d .0))) (c .if3 .taken))
+    λ h s st. let d = decoded (c .before .before .before .before .before .before .before .before .expression-at .ensures) (c .before .before .before .before .before .before .node .given .1) (c .before .before .before .node5 .given .1) in rw (names-binary st d) (member-left _ _ _ (c .before .occurs3 .ensures h s (standing-child st (refers st d .0))) (c .if3 .taken))
 
 -- src/lib.rt:43:1
 occurs-returns-10 : (t : ℕ) → occurs-lts.Need-returns-10 (
-  node-at-reads.Asked,
-  node-at-reads.Learnt,
+  expression-at-reads.Asked,
+  expression-at-reads.Learnt,
   occurs-below t,
   occurs.Post,
 ) (occurs-at t) occurs.Post
 occurs-returns-10 t c =
-    λ h s st. let d = decoded (c .before .before .before .before .before .before .before .before .before .node-at .ensures) (c .before .before .before .before .before .before .before .node .given .1) (c .before .before .before .before .node5 .given .1) in rw (names-binary st d) (member-right _ _ _ (c .before .before .occurs3 .ensures h s (standing-child st (refers st d .0))) (c .before .if3 .left) (c .occurs4 .ensures h s (standing-child st (refers st d .1))))
+    λ h s st. let d = decoded (c .before .before .before .before .before .before .before .before .before .expression-at .ensures) (c .before .before .before .before .before .before .before .node .given .1) (c .before .before .before .before .node5 .given .1) in rw (names-binary st d) (member-right _ _ _ (c .before .before .occurs3 .ensures h s (standing-child st (refers st d .0))) (c .before .if3 .left) (c .occurs4 .ensures h s (standing-child st (refers st d .1))))
 
 -- src/lib.rt:43:1
 occurs-returns-11 : (t : ℕ) → occurs-lts.Need-returns-11 (
-  node-at-reads.Asked,
-  node-at-reads.Learnt,
+  expression-at-reads.Asked,
+  expression-at-reads.Learnt,
   occurs-below t,
   occurs.Post,
 ) (occurs-at t) occurs.Post
 occurs-returns-11 t c =
-    λ h s st. let d = decoded (c .before .before .before .before .before .before .before .node-at .ensures) (c .before .before .before .before .before .node .given .1) (c .before .before .node6 .given .1) in rw (names-not st d) (c .occurs5 .ensures h s (standing-child st (refers st d)))
+    λ h s st. let d = decoded (c .before .before .before .before .before .before .before .expression-at .ensures) (c .before .before .before .before .before .node .given .1) (c .before .before .node6 .given .1) in rw (names-not st d) (c .occurs5 .ensures h s (standing-child st (refers st d)))
 
 -- src/lib.rt:43:1
 occurs-returns-12 : (t : ℕ) → occurs-lts.Need-returns-12 (
-  node-at-reads.Asked,
-  node-at-reads.Learnt,
+  expression-at-reads.Asked,
+  expression-at-reads.Learnt,
   occurs-below t,
   occurs.Post,
 ) (occurs-at t) occurs.Post
 occurs-returns-12 t c =
-    λ h s st. absurd (no-statement-arm (sym (c .before .before .before .before .node-at .ensures) ∙ c .before .before .node .given .1) st (c .match2 .keys6))
+    λ h s st. absurd (no-statement-arm (sym (c .before .before .before .before .expression-at .ensures) ∙ c .before .before .node .given .1) st (c .match2 .keys6))
 
 pub +occurs-spec : {M : Type 1} → statement M
 +occurs-spec = close μ-occurs λ t. occurs-lts.spec (
-  node-at-reads.Asked,
-  node-at-reads.Learnt,
+  expression-at-reads.Asked,
+  expression-at-reads.Learnt,
   occurs-below t,
   occurs.Post,
 )
     (occurs-at t)
     occurs.Post
-    (occurs-node-at-requires t)
+    (occurs-expression-at-requires t)
     (occurs-enum-known-node t)
     (occurs-enum-told t)
     (occurs-returns t)

@@ -16,7 +16,7 @@ use Rattle.walker.proofs.binary.Reads as binary-reads
 use Rattle.walker.proofs.element.Reads as element-reads
 use Rattle.walker.proofs.size.Reads as size-reads
 use Rattle.walker.proofs.variable.Reads as variable-reads
-use Rattle.records.proofs.node_at.Reads as node-at-reads
+use Rattle.records.proofs.expression_at.Reads as expression-at-reads
 use Rattle.walker.proofs.+expression.{statement}
 use Rattle.walker.proofs.+expression.Tie.{close}
 
@@ -32,9 +32,9 @@ expression-below t =
     and 3 expression-kinds.ps (falls 3 expression-kinds.ps _<_ μ-expression t) expression.Pre
 
 -- src/lib.rt:117:29
-expression-node-at-requires : (t : ℕ) → expression-lts.Need-node-at-requires (
-  node-at-reads.Asked,
-  node-at-reads.Learnt,
+expression-expression-at-requires : (t : ℕ) → expression-lts.Need-expression-at-requires (
+  expression-at-reads.Asked,
+  expression-at-reads.Learnt,
   variable-reads.Asked,
   variable-reads.Learnt,
   expression-below t,
@@ -46,12 +46,12 @@ expression-node-at-requires : (t : ℕ) → expression-lts.Need-node-at-requires
   binary-reads.Asked,
   binary-reads.Learnt,
 ) (expression-at t) expression.Post
-expression-node-at-requires t c κs = search needs
+expression-expression-at-requires t c κs = c .before .before .pre .1 .standing .classed
 
 -- src/lib.rt:117:21
 expression-enum-known-node : (t : ℕ) → expression-lts.Need-enum-known-node (
-  node-at-reads.Asked,
-  node-at-reads.Learnt,
+  expression-at-reads.Asked,
+  expression-at-reads.Learnt,
   variable-reads.Asked,
   variable-reads.Learnt,
   expression-below t,
@@ -67,8 +67,8 @@ expression-enum-known-node t c = search needs
 
 -- src/lib.rt:118:9
 expression-enum-told : (t : ℕ) → expression-lts.Need-enum-told (
-  node-at-reads.Asked,
-  node-at-reads.Learnt,
+  expression-at-reads.Asked,
+  expression-at-reads.Learnt,
   variable-reads.Asked,
   variable-reads.Learnt,
   expression-below t,
@@ -84,8 +84,8 @@ expression-enum-told t c = search needs
 
 -- src/lib.rt:118:9
 expression-returns : (t : ℕ) → expression-lts.Need-returns (
-  node-at-reads.Asked,
-  node-at-reads.Learnt,
+  expression-at-reads.Asked,
+  expression-at-reads.Learnt,
   variable-reads.Asked,
   variable-reads.Learnt,
   expression-below t,
@@ -97,12 +97,12 @@ expression-returns : (t : ℕ) → expression-lts.Need-returns (
   binary-reads.Asked,
   binary-reads.Learnt,
 ) (expression-at t) expression.Post
-expression-returns t c = λ h s st. absurd (never-refused st (sym (c .before .before .node-at .ensures) ∙ c .enum-told .given .1))
+expression-returns t c = λ h s st. absurd (never-refused st (sym (c .before .before .expression-at .ensures) ∙ c .enum-told .given .1))
 
 -- src/lib.rt:121:26
 expression-enum-known-node-2 : (t : ℕ) → expression-lts.Need-enum-known-node-2 (
-  node-at-reads.Asked,
-  node-at-reads.Learnt,
+  expression-at-reads.Asked,
+  expression-at-reads.Learnt,
   variable-reads.Asked,
   variable-reads.Learnt,
   expression-below t,
@@ -118,8 +118,8 @@ expression-enum-known-node-2 t c = search needs
 
 -- src/lib.rt:122:23
 expression-enum-known-node-3 : (t : ℕ) → expression-lts.Need-enum-known-node-3 (
-  node-at-reads.Asked,
-  node-at-reads.Learnt,
+  expression-at-reads.Asked,
+  expression-at-reads.Learnt,
   variable-reads.Asked,
   variable-reads.Learnt,
   expression-below t,
@@ -135,8 +135,8 @@ expression-enum-known-node-3 t c = search needs
 
 -- src/lib.rt:123:32
 expression-enum-known-lvalue : (t : ℕ) → expression-lts.Need-enum-known-lvalue (
-  node-at-reads.Asked,
-  node-at-reads.Learnt,
+  expression-at-reads.Asked,
+  expression-at-reads.Learnt,
   variable-reads.Asked,
   variable-reads.Learnt,
   expression-below t,
@@ -152,8 +152,8 @@ expression-enum-known-lvalue t c = search needs
 
 -- src/lib.rt:123:55
 expression-variable-requires : (t : ℕ) → expression-lts.Need-variable-requires (
-  node-at-reads.Asked,
-  node-at-reads.Learnt,
+  expression-at-reads.Asked,
+  expression-at-reads.Learnt,
   variable-reads.Asked,
   variable-reads.Learnt,
   expression-below t,
@@ -169,8 +169,8 @@ expression-variable-requires t c κs = search needs
 
 -- src/lib.rt:124:31
 expression-enum-known-lvalue-2 : (t : ℕ) → expression-lts.Need-enum-known-lvalue-2 (
-  node-at-reads.Asked,
-  node-at-reads.Learnt,
+  expression-at-reads.Asked,
+  expression-at-reads.Learnt,
   variable-reads.Asked,
   variable-reads.Learnt,
   expression-below t,
@@ -186,8 +186,8 @@ expression-enum-known-lvalue-2 t c = search needs
 
 -- src/lib.rt:125:21
 expression-expression-requires : (t : ℕ) → expression-lts.Need-expression-requires (
-  node-at-reads.Asked,
-  node-at-reads.Learnt,
+  expression-at-reads.Asked,
+  expression-at-reads.Learnt,
   variable-reads.Asked,
   variable-reads.Learnt,
   expression-below t,
@@ -200,12 +200,12 @@ expression-expression-requires : (t : ℕ) → expression-lts.Need-expression-re
   binary-reads.Learnt,
 ) (expression-at t) expression.Post
 expression-expression-requires t c κs =
-    let d = decoded-value (c .before .before .before .before .before .before .before .before .before .node-at .ensures) (c .before .before .before .before .before .before .before .node .given .1) (c .before .before .before .before .node3 .given .1) (c .before .lvalue2 .given .1) in (omega (arith, c .before .before .before .before .before .before .before .before .before .before .before .before .pre .0, behind-index (c .before .before .before .before .before .before .before .before .before .before .before .before .pre .1) d (λ h s r. r .1)), known-index (c .before .before .before .before .before .before .before .before .before .before .before .before .pre .1) d (λ h s r. r .1))
+    let d = decoded-value (c .before .before .before .before .before .before .before .before .before .expression-at .ensures) (c .before .before .before .before .before .before .before .node .given .1) (c .before .before .before .before .node3 .given .1) (c .before .lvalue2 .given .1) in (omega (arith, c .before .before .before .before .before .before .before .before .before .before .before .before .pre .0, behind-index (c .before .before .before .before .before .before .before .before .before .before .before .before .pre .1) d (λ h s r. r .1)), known-index (c .before .before .before .before .before .before .before .before .before .before .before .before .pre .1) d (λ h s r. r .1))
 
 -- src/lib.rt:127:21
 expression-returns-2 : (t : ℕ) → expression-lts.Need-returns-2 (
-  node-at-reads.Asked,
-  node-at-reads.Learnt,
+  expression-at-reads.Asked,
+  expression-at-reads.Learnt,
   variable-reads.Asked,
   variable-reads.Learnt,
   expression-below t,
@@ -219,13 +219,13 @@ expression-returns-2 : (t : ℕ) → expression-lts.Need-returns-2 (
 ) (expression-at t) expression.Post
 expression-returns-2 t c =
     λ h s st Γ sc.
-    let d = decoded-value (c .before .before .before .before .before .before .before .before .before .before .before .before .node-at .ensures) (c .before .before .before .before .before .before .before .before .before .before .node .given .1) (c .before .before .before .before .before .before .before .node3 .given .1) (c .before .before .before .before .lvalue2 .given .1) in
+    let d = decoded-value (c .before .before .before .before .before .before .before .before .before .before .before .before .expression-at .ensures) (c .before .before .before .before .before .before .before .before .before .before .node .given .1) (c .before .before .before .before .before .before .before .node3 .given .1) (c .before .before .before .before .lvalue2 .given .1) in
     rw (means st d) (element-stops (c .before .before .expression .ensures h s (standing-child st (refers st d .1)) Γ sc) (c .if1 .taken))
 
 -- src/lib.rt:129:17
 expression-element-requires : (t : ℕ) → expression-lts.Need-element-requires (
-  node-at-reads.Asked,
-  node-at-reads.Learnt,
+  expression-at-reads.Asked,
+  expression-at-reads.Learnt,
   variable-reads.Asked,
   variable-reads.Learnt,
   expression-below t,
@@ -241,8 +241,8 @@ expression-element-requires t c κs = search needs
 
 -- src/lib.rt:131:30
 expression-enum-known-lvalue-3 : (t : ℕ) → expression-lts.Need-enum-known-lvalue-3 (
-  node-at-reads.Asked,
-  node-at-reads.Learnt,
+  expression-at-reads.Asked,
+  expression-at-reads.Learnt,
   variable-reads.Asked,
   variable-reads.Learnt,
   expression-below t,
@@ -258,8 +258,8 @@ expression-enum-known-lvalue-3 t c = search needs
 
 -- src/lib.rt:132:21
 expression-expression-requires-2 : (t : ℕ) → expression-lts.Need-expression-requires-2 (
-  node-at-reads.Asked,
-  node-at-reads.Learnt,
+  expression-at-reads.Asked,
+  expression-at-reads.Learnt,
   variable-reads.Asked,
   variable-reads.Learnt,
   expression-below t,
@@ -272,12 +272,12 @@ expression-expression-requires-2 : (t : ℕ) → expression-lts.Need-expression-
   binary-reads.Learnt,
 ) (expression-at t) expression.Post
 expression-expression-requires-2 t c κs =
-    let d = decoded-value (c .before .before .before .before .before .before .before .before .before .node-at .ensures) (c .before .before .before .before .before .before .before .node .given .1) (c .before .before .before .before .node3 .given .1) (c .before .lvalue3 .given .1) in (omega (arith, c .before .before .before .before .before .before .before .before .before .before .before .before .pre .0, behind-index (c .before .before .before .before .before .before .before .before .before .before .before .before .pre .1) d (λ h s r. r .1)), known-index (c .before .before .before .before .before .before .before .before .before .before .before .before .pre .1) d (λ h s r. r .1))
+    let d = decoded-value (c .before .before .before .before .before .before .before .before .before .expression-at .ensures) (c .before .before .before .before .before .before .before .node .given .1) (c .before .before .before .before .node3 .given .1) (c .before .lvalue3 .given .1) in (omega (arith, c .before .before .before .before .before .before .before .before .before .before .before .before .pre .0, behind-index (c .before .before .before .before .before .before .before .before .before .before .before .before .pre .1) d (λ h s r. r .1)), known-index (c .before .before .before .before .before .before .before .before .before .before .before .before .pre .1) d (λ h s r. r .1))
 
 -- src/lib.rt:134:21
 expression-returns-3 : (t : ℕ) → expression-lts.Need-returns-3 (
-  node-at-reads.Asked,
-  node-at-reads.Learnt,
+  expression-at-reads.Asked,
+  expression-at-reads.Learnt,
   variable-reads.Asked,
   variable-reads.Learnt,
   expression-below t,
@@ -291,13 +291,13 @@ expression-returns-3 : (t : ℕ) → expression-lts.Need-returns-3 (
 ) (expression-at t) expression.Post
 expression-returns-3 t c =
     λ h s st Γ sc.
-    let d = decoded-value (c .before .before .before .before .before .before .before .before .before .before .before .before .node-at .ensures) (c .before .before .before .before .before .before .before .before .before .before .node .given .1) (c .before .before .before .before .before .before .before .node3 .given .1) (c .before .before .before .before .lvalue3 .given .1) in
+    let d = decoded-value (c .before .before .before .before .before .before .before .before .before .before .before .before .expression-at .ensures) (c .before .before .before .before .before .before .before .before .before .before .node .given .1) (c .before .before .before .before .before .before .before .node3 .given .1) (c .before .before .before .before .lvalue3 .given .1) in
     rw (means st d) (element-stops (c .before .before .expression2 .ensures h s (standing-child st (refers st d .1)) Γ sc) (c .if2 .taken))
 
 -- src/lib.rt:136:17
 expression-element-requires-2 : (t : ℕ) → expression-lts.Need-element-requires-2 (
-  node-at-reads.Asked,
-  node-at-reads.Learnt,
+  expression-at-reads.Asked,
+  expression-at-reads.Learnt,
   variable-reads.Asked,
   variable-reads.Learnt,
   expression-below t,
@@ -313,8 +313,8 @@ expression-element-requires-2 t c κs = search needs
 
 -- src/lib.rt:139:22
 expression-enum-known-node-4 : (t : ℕ) → expression-lts.Need-enum-known-node-4 (
-  node-at-reads.Asked,
-  node-at-reads.Learnt,
+  expression-at-reads.Asked,
+  expression-at-reads.Learnt,
   variable-reads.Asked,
   variable-reads.Learnt,
   expression-below t,
@@ -330,8 +330,8 @@ expression-enum-known-node-4 t c = search needs
 
 -- src/lib.rt:139:36
 expression-size-requires : (t : ℕ) → expression-lts.Need-size-requires (
-  node-at-reads.Asked,
-  node-at-reads.Learnt,
+  expression-at-reads.Asked,
+  expression-at-reads.Learnt,
   variable-reads.Asked,
   variable-reads.Learnt,
   expression-below t,
@@ -347,8 +347,8 @@ expression-size-requires t c κs = search needs
 
 -- src/lib.rt:140:24
 expression-enum-known-node-5 : (t : ℕ) → expression-lts.Need-enum-known-node-5 (
-  node-at-reads.Asked,
-  node-at-reads.Learnt,
+  expression-at-reads.Asked,
+  expression-at-reads.Learnt,
   variable-reads.Asked,
   variable-reads.Learnt,
   expression-below t,
@@ -364,8 +364,8 @@ expression-enum-known-node-5 t c = search needs
 
 -- src/lib.rt:141:17
 expression-expression-requires-3 : (t : ℕ) → expression-lts.Need-expression-requires-3 (
-  node-at-reads.Asked,
-  node-at-reads.Learnt,
+  expression-at-reads.Asked,
+  expression-at-reads.Learnt,
   variable-reads.Asked,
   variable-reads.Learnt,
   expression-below t,
@@ -378,12 +378,12 @@ expression-expression-requires-3 : (t : ℕ) → expression-lts.Need-expression-
   binary-reads.Learnt,
 ) (expression-at t) expression.Post
 expression-expression-requires-3 t c κs =
-    let d = decoded (c .before .before .before .before .before .before .node-at .ensures) (c .before .before .before .before .node .given .1) (c .before .node5 .given .1) in (omega (arith, c .before .before .before .before .before .before .before .before .before .pre .0, behind (c .before .before .before .before .before .before .before .before .before .pre .1) d (λ h s r. r .0)), known-child (c .before .before .before .before .before .before .before .before .before .pre .1) d (λ h s r. r .0))
+    let d = decoded (c .before .before .before .before .before .before .expression-at .ensures) (c .before .before .before .before .node .given .1) (c .before .node5 .given .1) in (omega (arith, c .before .before .before .before .before .before .before .before .before .pre .0, behind (c .before .before .before .before .before .before .before .before .before .pre .1) d (λ h s r. r .0)), known-child (c .before .before .before .before .before .before .before .before .before .pre .1) d (λ h s r. r .0))
 
 -- src/lib.rt:143:17
 expression-returns-4 : (t : ℕ) → expression-lts.Need-returns-4 (
-  node-at-reads.Asked,
-  node-at-reads.Learnt,
+  expression-at-reads.Asked,
+  expression-at-reads.Learnt,
   variable-reads.Asked,
   variable-reads.Learnt,
   expression-below t,
@@ -397,13 +397,13 @@ expression-returns-4 : (t : ℕ) → expression-lts.Need-returns-4 (
 ) (expression-at t) expression.Post
 expression-returns-4 t c =
     λ h s st Γ sc.
-    let d = decoded (c .before .before .before .before .before .before .before .before .before .node-at .ensures) (c .before .before .before .before .before .before .before .node .given .1) (c .before .before .before .before .node5 .given .1) in
+    let d = decoded (c .before .before .before .before .before .before .before .before .before .expression-at .ensures) (c .before .before .before .before .before .before .before .node .given .1) (c .before .before .before .before .node5 .given .1) in
     rw (means st d) (left-stops (c .before .before .expression3 .ensures h s (standing-child st (refers st d .0)) Γ sc) (c .if3 .taken))
 
 -- src/lib.rt:145:17
 expression-expression-requires-4 : (t : ℕ) → expression-lts.Need-expression-requires-4 (
-  node-at-reads.Asked,
-  node-at-reads.Learnt,
+  expression-at-reads.Asked,
+  expression-at-reads.Learnt,
   variable-reads.Asked,
   variable-reads.Learnt,
   expression-below t,
@@ -416,12 +416,12 @@ expression-expression-requires-4 : (t : ℕ) → expression-lts.Need-expression-
   binary-reads.Learnt,
 ) (expression-at t) expression.Post
 expression-expression-requires-4 t c κs =
-    let d = decoded (c .before .before .before .before .before .before .before .before .before .node-at .ensures) (c .before .before .before .before .before .before .before .node .given .1) (c .before .before .before .before .node5 .given .1) in (omega (arith, c .before .before .before .before .before .before .before .before .before .before .before .before .pre .0, behind (c .before .before .before .before .before .before .before .before .before .before .before .before .pre .1) d (λ h s r. r .1)), known-child (c .before .before .before .before .before .before .before .before .before .before .before .before .pre .1) d (λ h s r. r .1))
+    let d = decoded (c .before .before .before .before .before .before .before .before .before .expression-at .ensures) (c .before .before .before .before .before .before .before .node .given .1) (c .before .before .before .before .node5 .given .1) in (omega (arith, c .before .before .before .before .before .before .before .before .before .before .before .before .pre .0, behind (c .before .before .before .before .before .before .before .before .before .before .before .before .pre .1) d (λ h s r. r .1)), known-child (c .before .before .before .before .before .before .before .before .before .before .before .before .pre .1) d (λ h s r. r .1))
 
 -- src/lib.rt:147:17
 expression-returns-5 : (t : ℕ) → expression-lts.Need-returns-5 (
-  node-at-reads.Asked,
-  node-at-reads.Learnt,
+  expression-at-reads.Asked,
+  expression-at-reads.Learnt,
   variable-reads.Asked,
   variable-reads.Learnt,
   expression-below t,
@@ -435,14 +435,14 @@ expression-returns-5 : (t : ℕ) → expression-lts.Need-returns-5 (
 ) (expression-at t) expression.Post
 expression-returns-5 t c =
     λ h s st Γ sc.
-    let d = decoded (c .before .before .before .before .before .before .before .before .before .before .before .before .node-at .ensures) (c .before .before .before .before .before .before .before .before .before .before .node .given .1) (c .before .before .before .before .before .before .before .node5 .given .1) in
+    let d = decoded (c .before .before .before .before .before .before .before .before .before .before .before .before .expression-at .ensures) (c .before .before .before .before .before .before .before .before .before .before .node .given .1) (c .before .before .before .before .before .before .before .node5 .given .1) in
     rw (means st d)
     (right-stops (c .before .before .before .before .before .expression3 .ensures h s (standing-child st (refers st d .0)) Γ sc) (c .before .before .before .if3 .left) (c .before .before .expression4 .ensures h s (standing-child st (refers st d .1)) Γ sc) (c .if4 .taken))
 
 -- src/lib.rt:149:13
 expression-binary-requires : (t : ℕ) → expression-lts.Need-binary-requires (
-  node-at-reads.Asked,
-  node-at-reads.Learnt,
+  expression-at-reads.Asked,
+  expression-at-reads.Learnt,
   variable-reads.Asked,
   variable-reads.Learnt,
   expression-below t,
@@ -458,8 +458,8 @@ expression-binary-requires t c κs = search needs
 
 -- src/lib.rt:151:21
 expression-enum-known-node-6 : (t : ℕ) → expression-lts.Need-enum-known-node-6 (
-  node-at-reads.Asked,
-  node-at-reads.Learnt,
+  expression-at-reads.Asked,
+  expression-at-reads.Learnt,
   variable-reads.Asked,
   variable-reads.Learnt,
   expression-below t,
@@ -475,8 +475,8 @@ expression-enum-known-node-6 t c = search needs
 
 -- src/lib.rt:151:34
 expression-expression-requires-5 : (t : ℕ) → expression-lts.Need-expression-requires-5 (
-  node-at-reads.Asked,
-  node-at-reads.Learnt,
+  expression-at-reads.Asked,
+  expression-at-reads.Learnt,
   variable-reads.Asked,
   variable-reads.Learnt,
   expression-below t,
@@ -489,12 +489,12 @@ expression-expression-requires-5 : (t : ℕ) → expression-lts.Need-expression-
   binary-reads.Learnt,
 ) (expression-at t) expression.Post
 expression-expression-requires-5 t c κs =
-    let d = decoded (c .before .before .before .before .before .before .node-at .ensures) (c .before .before .before .before .node .given .1) (c .before .node6 .given .1) in (omega (arith, c .before .before .before .before .before .before .before .before .before .pre .0, behind (c .before .before .before .before .before .before .before .before .before .pre .1) d (λ h s r. r)), known-child (c .before .before .before .before .before .before .before .before .before .pre .1) d (λ h s r. r))
+    let d = decoded (c .before .before .before .before .before .before .expression-at .ensures) (c .before .before .before .before .node .given .1) (c .before .node6 .given .1) in (omega (arith, c .before .before .before .before .before .before .before .before .before .pre .0, behind (c .before .before .before .before .before .before .before .before .before .pre .1) d (λ h s r. r)), known-child (c .before .before .before .before .before .before .before .before .before .pre .1) d (λ h s r. r))
 
 -- src/lib.rt:112:1
 expression-returns-6 : (t : ℕ) → expression-lts.Need-returns-6 (
-  node-at-reads.Asked,
-  node-at-reads.Learnt,
+  expression-at-reads.Asked,
+  expression-at-reads.Learnt,
   variable-reads.Asked,
   variable-reads.Learnt,
   expression-below t,
@@ -507,12 +507,12 @@ expression-returns-6 : (t : ℕ) → expression-lts.Need-returns-6 (
   binary-reads.Learnt,
 ) (expression-at t) expression.Post
 expression-returns-6 t c =
-    λ h s st Γ sc. rw (means st (decoded (c .before .before .before .before .before .before .node-at .ensures) (c .before .before .before .before .node .given .1) (c .before .node2 .given .1))) (judges-number _ _)
+    λ h s st Γ sc. rw (means st (decoded (c .before .before .before .before .before .before .expression-at .ensures) (c .before .before .before .before .node .given .1) (c .before .node2 .given .1))) (judges-number _ _)
 
 -- src/lib.rt:112:1
 expression-returns-7 : (t : ℕ) → expression-lts.Need-returns-7 (
-  node-at-reads.Asked,
-  node-at-reads.Learnt,
+  expression-at-reads.Asked,
+  expression-at-reads.Learnt,
   variable-reads.Asked,
   variable-reads.Learnt,
   expression-below t,
@@ -526,13 +526,13 @@ expression-returns-7 : (t : ℕ) → expression-lts.Need-returns-7 (
 ) (expression-at t) expression.Post
 expression-returns-7 t c =
     λ h s st Γ sc.
-    let d = decoded-value (c .before .before .before .before .before .before .before .before .before .before .node-at .ensures) (c .before .before .before .before .before .before .before .before .node .given .1) (c .before .before .before .before .before .node3 .given .1) (c .before .before .lvalue .given .1) in
+    let d = decoded-value (c .before .before .before .before .before .before .before .before .before .before .expression-at .ensures) (c .before .before .before .before .before .before .before .before .node .given .1) (c .before .before .before .before .before .node3 .given .1) (c .before .before .lvalue .given .1) in
     rw (means st d) (c .variable .ensures .is s Γ sc (name-small st (refers st d)) _)
 
 -- src/lib.rt:112:1
 expression-returns-8 : (t : ℕ) → expression-lts.Need-returns-8 (
-  node-at-reads.Asked,
-  node-at-reads.Learnt,
+  expression-at-reads.Asked,
+  expression-at-reads.Learnt,
   variable-reads.Asked,
   variable-reads.Learnt,
   expression-below t,
@@ -546,13 +546,13 @@ expression-returns-8 : (t : ℕ) → expression-lts.Need-returns-8 (
 ) (expression-at t) expression.Post
 expression-returns-8 t c =
     λ h s st Γ sc.
-    let d = decoded-value (c .before .before .before .before .before .before .before .before .before .before .before .before .before .node-at .ensures) (c .before .before .before .before .before .before .before .before .before .before .before .node .given .1) (c .before .before .before .before .before .before .before .before .node3 .given .1) (c .before .before .before .before .before .lvalue2 .given .1) in
+    let d = decoded-value (c .before .before .before .before .before .before .before .before .before .before .before .before .before .expression-at .ensures) (c .before .before .before .before .before .before .before .before .before .before .before .node .given .1) (c .before .before .before .before .before .before .before .before .node3 .given .1) (c .before .before .before .before .before .lvalue2 .given .1) in
     rw (means st d) (element-goes (c .before .before .before .expression .ensures h s (standing-child st (refers st d .1)) Γ sc) (c .before .if1 .left) (c .element .ensures) sc (name-small st (refers st d .0)))
 
 -- src/lib.rt:112:1
 expression-returns-9 : (t : ℕ) → expression-lts.Need-returns-9 (
-  node-at-reads.Asked,
-  node-at-reads.Learnt,
+  expression-at-reads.Asked,
+  expression-at-reads.Learnt,
   variable-reads.Asked,
   variable-reads.Learnt,
   expression-below t,
@@ -566,13 +566,13 @@ expression-returns-9 : (t : ℕ) → expression-lts.Need-returns-9 (
 ) (expression-at t) expression.Post
 expression-returns-9 t c =
     λ h s st Γ sc.
-    let d = decoded-value (c .before .before .before .before .before .before .before .before .before .before .before .before .before .node-at .ensures) (c .before .before .before .before .before .before .before .before .before .before .before .node .given .1) (c .before .before .before .before .before .before .before .before .node3 .given .1) (c .before .before .before .before .before .lvalue3 .given .1) in
+    let d = decoded-value (c .before .before .before .before .before .before .before .before .before .before .before .before .before .expression-at .ensures) (c .before .before .before .before .before .before .before .before .before .before .before .node .given .1) (c .before .before .before .before .before .before .before .before .node3 .given .1) (c .before .before .before .before .before .lvalue3 .given .1) in
     rw (means st d) (element-goes (c .before .before .before .expression2 .ensures h s (standing-child st (refers st d .1)) Γ sc) (c .before .if2 .left) (c .element2 .ensures) sc (name-small st (refers st d .0)))
 
 -- src/lib.rt:112:1
 expression-returns-10 : (t : ℕ) → expression-lts.Need-returns-10 (
-  node-at-reads.Asked,
-  node-at-reads.Learnt,
+  expression-at-reads.Asked,
+  expression-at-reads.Learnt,
   variable-reads.Asked,
   variable-reads.Learnt,
   expression-below t,
@@ -585,12 +585,12 @@ expression-returns-10 : (t : ℕ) → expression-lts.Need-returns-10 (
   binary-reads.Learnt,
 ) (expression-at t) expression.Post
 expression-returns-10 t c =
-    λ h s st Γ sc. let d = decoded (c .before .before .before .before .before .before .before .node-at .ensures) (c .before .before .before .before .before .node .given .1) (c .before .before .node4 .given .1) in rw (means st d) (c .size .ensures .is s Γ sc (name-small st (refers st d)))
+    λ h s st Γ sc. let d = decoded (c .before .before .before .before .before .before .before .expression-at .ensures) (c .before .before .before .before .before .node .given .1) (c .before .before .node4 .given .1) in rw (means st d) (c .size .ensures .is s Γ sc (name-small st (refers st d)))
 
 -- src/lib.rt:112:1
 expression-returns-11 : (t : ℕ) → expression-lts.Need-returns-11 (
-  node-at-reads.Asked,
-  node-at-reads.Learnt,
+  expression-at-reads.Asked,
+  expression-at-reads.Learnt,
   variable-reads.Asked,
   variable-reads.Learnt,
   expression-below t,
@@ -604,14 +604,14 @@ expression-returns-11 : (t : ℕ) → expression-lts.Need-returns-11 (
 ) (expression-at t) expression.Post
 expression-returns-11 t c =
     λ h s st Γ sc.
-    let d = decoded (c .before .before .before .before .before .before .before .before .before .before .before .before .before .node-at .ensures) (c .before .before .before .before .before .before .before .before .before .before .before .node .given .1) (c .before .before .before .before .before .before .before .before .node5 .given .1) in
+    let d = decoded (c .before .before .before .before .before .before .before .before .before .before .before .before .before .expression-at .ensures) (c .before .before .before .before .before .before .before .before .before .before .before .node .given .1) (c .before .before .before .before .before .before .before .before .node5 .given .1) in
     rw (means st d)
     (binary-goes (c .before .before .before .before .before .before .expression3 .ensures h s (standing-child st (refers st d .0)) Γ sc) (c .before .before .before .before .if3 .left) (c .before .before .before .expression4 .ensures h s (standing-child st (refers st d .1)) Γ sc) (c .before .if4 .left) (c .binary .ensures .0) (c .binary .ensures .1))
 
 -- src/lib.rt:112:1
 expression-returns-12 : (t : ℕ) → expression-lts.Need-returns-12 (
-  node-at-reads.Asked,
-  node-at-reads.Learnt,
+  expression-at-reads.Asked,
+  expression-at-reads.Learnt,
   variable-reads.Asked,
   variable-reads.Learnt,
   expression-below t,
@@ -624,12 +624,12 @@ expression-returns-12 : (t : ℕ) → expression-lts.Need-returns-12 (
   binary-reads.Learnt,
 ) (expression-at t) expression.Post
 expression-returns-12 t c =
-    λ h s st Γ sc. let d = decoded (c .before .before .before .before .before .before .before .node-at .ensures) (c .before .before .before .before .before .node .given .1) (c .before .before .node6 .given .1) in rw (means st d) (unary-goes (c .expression5 .ensures h s (standing-child st (refers st d)) Γ sc))
+    λ h s st Γ sc. let d = decoded (c .before .before .before .before .before .before .before .expression-at .ensures) (c .before .before .before .before .before .node .given .1) (c .before .before .node6 .given .1) in rw (means st d) (unary-goes (c .expression5 .ensures h s (standing-child st (refers st d)) Γ sc))
 
 -- src/lib.rt:112:1
 expression-returns-13 : (t : ℕ) → expression-lts.Need-returns-13 (
-  node-at-reads.Asked,
-  node-at-reads.Learnt,
+  expression-at-reads.Asked,
+  expression-at-reads.Learnt,
   variable-reads.Asked,
   variable-reads.Learnt,
   expression-below t,
@@ -642,12 +642,12 @@ expression-returns-13 : (t : ℕ) → expression-lts.Need-returns-13 (
   binary-reads.Learnt,
 ) (expression-at t) expression.Post
 expression-returns-13 t c =
-    λ h s st. absurd (no-statement-arm (sym (c .before .before .before .before .node-at .ensures) ∙ c .before .before .node .given .1) st (c .match2 .keys6))
+    λ h s st. absurd (no-statement-arm (sym (c .before .before .before .before .expression-at .ensures) ∙ c .before .before .node .given .1) st (c .match2 .keys6))
 
 pub +expression-spec : {M : Type 1} → statement M
 +expression-spec = close μ-expression λ t. expression-lts.spec (
-  node-at-reads.Asked,
-  node-at-reads.Learnt,
+  expression-at-reads.Asked,
+  expression-at-reads.Learnt,
   variable-reads.Asked,
   variable-reads.Learnt,
   expression-below t,
@@ -661,7 +661,7 @@ pub +expression-spec : {M : Type 1} → statement M
 )
     (expression-at t)
     expression.Post
-    (expression-node-at-requires t)
+    (expression-expression-at-requires t)
     (expression-enum-known-node t)
     (expression-enum-told t)
     (expression-returns t)
