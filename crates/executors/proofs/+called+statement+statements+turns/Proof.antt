@@ -1385,7 +1385,7 @@ statements-returns-4 : (t : ℕ) → statements-lts.Need-returns-4 (
 statements-returns-4 t c =
     rw (c .kept4 .ensures, c .before .before .kept3 .ensures)
       (follows-stops _ _ (c .before .before .before .before .before .before .before .before .before .before .before .before .before .before .before .before .before .before .before .before .before .before .before .before .args .inverse) _ _ _ _ _ (c .before .before .before .before .before .before .before .before .before .before .before .before .before .before .loop .inv) (c .before .before .before .before .before .before .before .before .before .before .before .before .before .before .before .if2 .left) (c .before .before .before .before .before .before .before .before .before .before .before .before .before .before .loop .inv .chain (c .before .before .before .before .before .before .before .before .before .before .before .before .before .loop-test .taken)) _ _ _ _
-        (c .before .before .before .before .before .before .before .before .before .statement2 .ensures) (λ e. c .before .if4 .taken (ap (λ r. r .number) (c .before .before .kept3 .ensures) ∙ e)))
+        (c .before .before .before .before .before .before .before .before .before .statement2 .ensures) (rw (c .before .before .kept3 .ensures) at (c .before .if4 .taken)))
 
 -- src/lib.rt:188:9
 statements-next-at-requires-2 : (t : ℕ) → statements-lts.Need-next-at-requires-2 (
@@ -1435,7 +1435,7 @@ statements-loop-again t c =
       slots-long = c .before .before .before .before .before .before .before .before .before .statement2 .kept .1 .1 .1 .1 .1 .0 ∙ c .before .before .before .before .before .before .before .before .before .before .before .before .before .before .loop .inv .slots-long;
       trace-long = c .before .before .before .before .before .before .before .before .before .statement2 .kept .1 .1 .1 .1 .1 .1 .0 ∙ c .before .before .before .before .before .before .before .before .before .before .before .before .before .before .loop .inv .trace-long;
       followed = followed-on _ _ (c .before .before .before .before .before .before .before .before .before .before .before .before .before .before .before .before .before .before .before .before .before .before .before .before .args .inverse) _ _ _ _ _ (c .before .before .before .before .before .before .before .before .before .before .before .before .before .before .loop .inv) (c .before .before .before .before .before .before .before .before .before .before .before .before .before .before .before .if2 .left) sm _ _ _ _
-        (c .before .before .before .before .before .before .before .before .before .statement2 .ensures) (sym (ap (λ r. r .number) (c .before .before .kept3 .ensures)) ∙ c .before .if4 .left) _ (c .next-at2 .ensures) })
+        (c .before .before .before .before .before .before .before .before .before .statement2 .ensures) (rw (c .before .before .kept3 .ensures) at (c .before .if4 .left)) _ (c .next-at2 .ensures) })
 
 -- src/lib.rt:190:5
 statements-kept-requires-5 : (t : ℕ) → statements-lts.Need-kept-requires-5 (
