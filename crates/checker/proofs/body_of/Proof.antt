@@ -11,31 +11,24 @@ use Rattle.names.proofs.fresh.Reads as fresh-reads
 use Rattle.names.proofs.mark_range.Reads as mark-range-reads
 use Rattle.walker.proofs.statement.Reads as statement-reads
 
--- src/lib.rt:43:21
 fresh-requires : tie.Need-fresh-requires
 fresh-requires c κs = search needs
 
--- src/lib.rt:44:5
 mark-range-requires : tie.Need-mark-range-requires
 mark-range-requires c κs = ranged (c .before .before .before .before .before .pre .0) (c .before .before .before .before .before .pre .1) (c .before .before .before .before .before .pre .2) .room
 
--- src/lib.rt:45:21
 fresh-requires-2 : tie.Need-fresh-requires-2
 fresh-requires-2 c κs = search needs
 
--- src/lib.rt:46:9
 statement-requires : tie.Need-statement-requires
 statement-requires c κs = walkable-of (c .before .before .before .before .before .before .before .before .before .pre .0) (c .before .before .before .before .before .before .before .before .before .pre .1) (c .before .before .before .before .before .before .before .before .before .pre .2)
 
--- src/lib.rt:48:9
 returns : tie.Need-returns
 returns c = λ h s k. body-stops k (c .before .before .before .before .before .before .before .before .before .before .before .before .pre .1) (asProcedure (c .before .before .before .before .before .before .before .before .before .before .before .before .args .q)) (c .before .before .before .before .before .before .before .before .before .before .before .before .pre .2) (c .before .before .before .before .before .before .before .before .fresh .ensures) (c .before .before .before .before .before .before .mark-range .ensures) (c .before .before .before .before .before .fresh2 .ensures) (c .before .before .statement .ensures h s) (c .if1 .taken)
 
--- src/lib.rt:50:5
 undeclared-requires : tie.Need-undeclared-requires
 undeclared-requires c κs = ranged (c .before .before .before .before .before .before .before .before .before .before .before .before .before .pre .0) (c .before .before .before .before .before .before .before .before .before .before .before .before .before .pre .1) (c .before .before .before .before .before .before .before .before .before .before .before .before .before .pre .2)
 
--- src/lib.rt:39:1
 returns-2 : tie.Need-returns-2
 returns-2 c = λ h s k. body-goes k (c .before .before .before .before .before .before .before .before .before .before .before .before .before .before .pre .1) (asProcedure (c .before .before .before .before .before .before .before .before .before .before .before .before .before .before .args .q)) (c .before .before .before .before .before .before .before .before .before .before .before .before .before .before .pre .2) (c .before .before .before .before .before .before .before .before .before .before .fresh .ensures) (c .before .before .before .before .before .before .before .before .mark-range .ensures) (c .before .before .before .before .before .before .before .fresh2 .ensures) (c .before .before .before .before .statement .ensures h s) (c .before .before .if1 .left) _ (c .undeclared .ensures _ (declared-marks k (c .before .before .before .before .before .before .before .before .before .before .before .before .before .before .pre .1) (asProcedure (c .before .before .before .before .before .before .before .before .before .before .before .before .before .before .args .q)) (c .before .before .before .before .before .before .before .before .before .before .before .before .before .before .pre .2) (c .before .before .before .before .before .before .before .before .before .before .fresh .ensures) (c .before .before .before .before .before .before .before .before .mark-range .ensures) (c .before .before .before .before .before .before .before .fresh2 .ensures) (c .before .before .before .before .statement .ensures h s) (c .before .before .if1 .left)))
 

@@ -17,23 +17,18 @@ use Rattle.checker.proofs.walked.Reads as walked-reads
 use Rattle.form.proofs.form.Reads as form-reads
 use Rattle.records.proofs.header_of.Reads as header-of-reads
 
--- src/lib.rt:96:9
 form-requires : tie.Need-form-requires
 form-requires c κs = search needs
 
--- src/lib.rt:98:9
 returns : tie.Need-returns
 returns c = then-stops _ _ (c .before .before .form .ensures) _ (c .if1 .taken) ∙ sym (verdict-is _)
 
--- src/lib.rt:100:19
 header-of-requires : tie.Need-header-of-requires
 header-of-requires c κs = search needs
 
--- src/lib.rt:100:5
 walked-requires : tie.Need-walked-requires
 walked-requires c κs = let f = formed _ (sym (ap (λ (v : form.Verdict). v .number) (c .before .before .before .form .ensures)) ∙ c .before .if1 .left) in (f, c .header-of .ensures, subst (λ (x : Header). Laid x (length (now (c .before .before .before .before .before .args .image)))) (sym (c .header-of .ensures)) (f .laid-out))
 
--- src/lib.rt:93:1
 returns-2 : tie.Need-returns-2
 returns-2 c = then-goes _ _ (c .before .before .before .before .form .ensures) _ (c .before .before .if1 .left) _ (c .walked .ensures) ∙ sym (verdict-is _)
 

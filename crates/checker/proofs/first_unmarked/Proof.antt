@@ -18,35 +18,27 @@ Inv-loop taken from end x₀ x = (from ≤ x) × (x ≤ end) × (form.search (ma
 abbrev μ-loop : tie.MeasureT-loop
 μ-loop taken from end x₀ x = end - x
 
--- src/lib.rt:19:5
 loop-holds : tie.Need-loop-holds Inv-loop μ-loop
 loop-holds c = (search needs, search needs, refl)
 
--- src/lib.rt:20:18
 cast-if1 : tie.Need-cast-if1 Inv-loop μ-loop
 cast-if1 c = search needs
 
--- src/lib.rt:20:12
 element-copy-out-if1 : tie.Need-element-copy-out-if1 Inv-loop μ-loop
 element-copy-out-if1 c = search needs
 
--- src/lib.rt:21:13
 returns : tie.Need-returns Inv-loop μ-loop
 returns c = sym (c .before .before .before .loop .inv .2 ∙ search-stop _ _ _ (c .before .before .loop-test .taken) (not-marked _ _ _ refl (c .if1 .taken)))
 
--- src/lib.rt:23:9
 add-x : tie.Need-add-x Inv-loop μ-loop
 add-x c = search needs
 
--- src/lib.rt:19:5
 loop-less : tie.Need-loop-less Inv-loop μ-loop
 loop-less c = search needs
 
--- src/lib.rt:19:5
 loop-again : tie.Need-loop-again Inv-loop μ-loop
 loop-again c = (omega arith, omega arith, c .before .before .before .loop .inv .2 ∙ search-on _ _ _ (c .before .before .loop-test .taken) (is-marked _ _ _ refl (c .if1 .left)))
 
--- src/lib.rt:14:1
 returns-2 : tie.Need-returns-2 Inv-loop μ-loop
 returns-2 c = sym (c .before .loop .inv .2 ∙ search-end _ _ _ (c .loop-test .left))
 

@@ -11,23 +11,18 @@ use Rattle.checker.proofs.undeclared.Lts as lts
 use Rattle.checker.proofs.first_unmarked.Reads as first-unmarked-reads
 use Rattle.tree.proofs.lowest.Reads as lowest-reads
 
--- src/lib.rt:34:15
 add-end : tie.Need-add-end
 add-end c = search needs
 
--- src/lib.rt:35:43
 add-first-unmarked : tie.Need-add-first-unmarked
 add-first-unmarked c = search needs
 
--- src/lib.rt:35:21
 first-unmarked-requires : tie.Need-first-unmarked-requires
 first-unmarked-requires c κs = search needs
 
--- src/lib.rt:35:5
 lowest-requires : tie.Need-lowest-requires
 lowest-requires c κs = search needs
 
--- src/lib.rt:30:1
 returns : tie.Need-returns
 returns c = λ t m. c .lowest .ensures ∙ undeclared-is (asProcedure (c .before .before .before .before .args .q)) _ t m (c .before .before .before .before .pre .ends) (c .before .before .before .before .pre .parameters) _ (c .before .first-unmarked .ensures)
 

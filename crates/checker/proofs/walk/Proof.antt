@@ -20,31 +20,24 @@ Inv-loop nodes variables procedures count p₀ p = (p ≤ count) × ((h : Header
 abbrev μ-loop : tie.MeasureT-loop
 μ-loop nodes variables procedures count p₀ p = count - p
 
--- src/lib.rt:67:5
 loop-holds : tie.Need-loop-holds Inv-loop μ-loop
 loop-holds c = (omega arith, λ h s k. walk-begins h s _)
 
--- src/lib.rt:68:13
 body-requires : tie.Need-body-requires Inv-loop μ-loop
 body-requires c κs = (c .before .before .before .before .before .pre, c .loop-test .taken)
 
--- src/lib.rt:70:13
 returns : tie.Need-returns Inv-loop μ-loop
 returns c = λ h s k. walk-stops h s _ _ (c .before .before .before .loop-test .taken) _ (c .before .before .body .ensures h s k) (c .if1 .taken) ∙ sym (c .before .before .before .before .loop .inv .1 h s k)
 
--- src/lib.rt:72:9
 add-p : tie.Need-add-p Inv-loop μ-loop
 add-p c = search needs
 
--- src/lib.rt:67:5
 loop-less : tie.Need-loop-less Inv-loop μ-loop
 loop-less c = search needs
 
--- src/lib.rt:67:5
 loop-again : tie.Need-loop-again Inv-loop μ-loop
 loop-again c = (omega arith, λ h s k. c .before .before .before .before .loop .inv .1 h s k ∙ walk-on h s _ _ (c .before .before .before .loop-test .taken) (sym (ap (λ (v : form.Verdict). v .number) (c .before .before .body .ensures h s k)) ∙ c .if1 .left))
 
--- src/lib.rt:62:1
 returns-2 : tie.Need-returns-2 Inv-loop μ-loop
 returns-2 c = λ h s k. sym (c .before .loop .inv .1 h s k ∙ walk-ends h s _ _ (c .loop-test .left))
 

@@ -13,63 +13,48 @@ use Rattle.checker.proofs.walked.Reads as reads
 use Rattle.checker.proofs.walked.Lts as lts
 use Rattle.checker.proofs.walk.Reads as walk-reads
 
--- src/lib.rt:85:22
 cast-procedures : tie.Need-cast-procedures
 cast-procedures c = search needs
 
--- src/lib.rt:86:21
 cast-variables : tie.Need-cast-variables
 cast-variables c = search needs
 
--- src/lib.rt:87:17
 cast-nodes : tie.Need-cast-nodes
 cast-nodes c = search needs
 
--- src/lib.rt:88:21
 cast-constants : tie.Need-cast-constants
 cast-constants c = search needs
 
--- src/lib.rt:89:10
 sub-walk : tie.Need-sub-walk
 sub-walk c = search needs
 
--- src/lib.rt:89:10
 part-walk-start : tie.Need-part-walk-start
 part-walk-start c = search needs
 
--- src/lib.rt:89:10
 part-walk-end : tie.Need-part-walk-end
 part-walk-end c = search needs
 
--- src/lib.rt:89:36
 sub-walk-2 : tie.Need-sub-walk-2
 sub-walk-2 c = search needs
 
--- src/lib.rt:89:36
 part-walk-start-2 : tie.Need-part-walk-start-2
 part-walk-start-2 c = search needs
 
--- src/lib.rt:89:36
 part-walk-end-2 : tie.Need-part-walk-end-2
 part-walk-end-2 c = search needs
 
--- src/lib.rt:89:62
 sub-walk-3 : tie.Need-sub-walk-3
 sub-walk-3 c = search needs
 
--- src/lib.rt:89:62
 part-walk-start-3 : tie.Need-part-walk-start-3
 part-walk-start-3 c = search needs
 
--- src/lib.rt:89:62
 part-walk-end-3 : tie.Need-part-walk-end-3
 part-walk-end-3 c = omega (arith, c .before .before .before .before .before .before .before .pre .2)
 
--- src/lib.rt:89:5
 walk-requires : tie.Need-walk-requires
 walk-requires c κs = record { header = _; parts = _; prepared = prepared-by _ (c .before .before .before .before .before .before .before .before .pre .0) _ (c .before .before .before .before .before .before .before .before .pre .1) }
 
--- src/lib.rt:81:1
 returns : tie.Need-returns
 returns c = c .walk .ensures _ _ (prepared-by _ (c .before .before .before .before .before .before .before .before .before .pre .0) _ (c .before .before .before .before .before .before .before .before .before .pre .1)) ∙ ap (λ (x : Header). walkRefusal slow (headerOf (now (c .before .before .before .before .before .before .before .before .before .args .image))) (partsOf (now (c .before .before .before .before .before .before .before .before .before .args .image))) 0 (x .procedures)) (c .before .before .before .before .before .before .before .before .before .pre .1)
 

@@ -80,7 +80,6 @@ turns-at t = and 7 turns-kinds.ps (is 7 turns-kinds.ps μ-turns t) turns.Pre
 abbrev turns-below : ℕ → In 7 turns-kinds.ps
 turns-below t = and 7 turns-kinds.ps (falls 7 turns-kinds.ps _<_ μ-turns t) turns.Pre
 
--- src/lib.rt:234:9
 called-refused-requires : (t : ℕ) → called-lts.Need-refused-requires (
   refused-reads.Asked,
   refused-reads.Learnt,
@@ -93,7 +92,6 @@ called-refused-requires : (t : ℕ) → called-lts.Need-refused-requires (
 ) (called-at t) called.Post
 called-refused-requires t c κs = search needs
 
--- src/lib.rt:234:9
 called-returns : (t : ℕ) → called-lts.Need-returns (
   refused-reads.Asked,
   refused-reads.Learnt,
@@ -106,7 +104,6 @@ called-returns : (t : ℕ) → called-lts.Need-returns (
 ) (called-at t) called.Post
 called-returns t c = λ w ρ st fine. absurd (omega (arith, fine .smaller, c .before .if1 .taken))
 
--- src/lib.rt:236:9
 called-procedure-at-requires : (t : ℕ) → called-lts.Need-procedure-at-requires (
   refused-reads.Asked,
   refused-reads.Learnt,
@@ -119,7 +116,6 @@ called-procedure-at-requires : (t : ℕ) → called-lts.Need-procedure-at-requir
 ) (called-at t) called.Post
 called-procedure-at-requires t c κs = search needs
 
--- src/lib.rt:237:17
 called-cast-first : (t : ℕ) → called-lts.Need-cast-first (
   refused-reads.Asked,
   refused-reads.Learnt,
@@ -132,7 +128,6 @@ called-cast-first : (t : ℕ) → called-lts.Need-cast-first (
 ) (called-at t) called.Post
 called-cast-first t c = search needs
 
--- src/lib.rt:238:9
 called-arguments-requires : (t : ℕ) → called-lts.Need-arguments-requires (
   refused-reads.Asked,
   refused-reads.Learnt,
@@ -146,7 +141,6 @@ called-arguments-requires : (t : ℕ) → called-lts.Need-arguments-requires (
 called-arguments-requires t c κs =
     (c .before .before .before .before .before .before .before .before .before .before .before .before .before .pre .1 .0, omega (arith, c .before .before .before .before .procedure-at .ok))
 
--- src/lib.rt:241:9
 called-same-length : (t : ℕ) → called-lts.Need-same-length (
   refused-reads.Asked,
   refused-reads.Learnt,
@@ -159,7 +153,6 @@ called-same-length : (t : ℕ) → called-lts.Need-same-length (
 ) (called-at t) called.Post
 called-same-length t c = search needs
 
--- src/lib.rt:241:9
 called-same-length-2 : (t : ℕ) → called-lts.Need-same-length-2 (
   refused-reads.Asked,
   refused-reads.Learnt,
@@ -172,7 +165,6 @@ called-same-length-2 : (t : ℕ) → called-lts.Need-same-length-2 (
 ) (called-at t) called.Post
 called-same-length-2 t c = search needs
 
--- src/lib.rt:241:9
 called-same-length-3 : (t : ℕ) → called-lts.Need-same-length-3 (
   refused-reads.Asked,
   refused-reads.Learnt,
@@ -185,7 +177,6 @@ called-same-length-3 : (t : ℕ) → called-lts.Need-same-length-3 (
 ) (called-at t) called.Post
 called-same-length-3 t c = search needs
 
--- src/lib.rt:241:9
 called-returns-2 : (t : ℕ) → called-lts.Need-returns-2 (
   refused-reads.Asked,
   refused-reads.Learnt,
@@ -202,7 +193,6 @@ called-returns-2 t c =
     let a = c .before .before .before .before .before .arguments .ensures .1 (w .h) (w .s) (w .program) ρ _ _ (st .agree) (fine .within) (rows-below w st _ _ fine _ own) in
     call-refused w st _ _ fine _ own _ (a .0) _ _ _ _ _ (c .before .before .before .before .before .arguments .ensures .0) (a .1) _ (c .if2 .taken)
 
--- src/lib.rt:243:5
 called-statement-requires : (t : ℕ) → called-lts.Need-statement-requires (
   refused-reads.Asked,
   refused-reads.Learnt,
@@ -216,7 +206,6 @@ called-statement-requires : (t : ℕ) → called-lts.Need-statement-requires (
 called-statement-requires t c κs =
     (omega (arith, c .before .before .before .before .before .before .before .before .before .before .before .before .before .before .before .before .before .before .before .before .before .before .pre .0, c .before .before .before .before .before .before .before .before .before .before .before .before .before .before .if1 .left), (rw (ap (λ r. r .body) (c .before .before .before .before .before .before .before .before .before .before .before .before .before .procedure-at .ensures)) (c .before .before .before .before .before .before .before .before .before .before .before .before .before .before .before .before .before .before .before .before .before .before .pre .1 .1 _ (c .before .before .before .before .before .before .before .before .before .before .before .before .before .before .if1 .left)), λ r l. c .before .before .before .before .before .before .before .before .before .before .before .before .before .before .before .before .before .before .before .before .before .before .pre .1 .1 r (omega (arith, l, c .before .before .before .before .before .before .before .before .before .before .before .before .before .before .if1 .left))))
 
--- src/lib.rt:228:1
 called-same-length-4 : (t : ℕ) → called-lts.Need-same-length-4 (
   refused-reads.Asked,
   refused-reads.Learnt,
@@ -229,7 +218,6 @@ called-same-length-4 : (t : ℕ) → called-lts.Need-same-length-4 (
 ) (called-at t) called.Post
 called-same-length-4 t c = search needs
 
--- src/lib.rt:228:1
 called-same-length-5 : (t : ℕ) → called-lts.Need-same-length-5 (
   refused-reads.Asked,
   refused-reads.Learnt,
@@ -242,7 +230,6 @@ called-same-length-5 : (t : ℕ) → called-lts.Need-same-length-5 (
 ) (called-at t) called.Post
 called-same-length-5 t c = search needs
 
--- src/lib.rt:228:1
 called-same-length-6 : (t : ℕ) → called-lts.Need-same-length-6 (
   refused-reads.Asked,
   refused-reads.Learnt,
@@ -255,7 +242,6 @@ called-same-length-6 : (t : ℕ) → called-lts.Need-same-length-6 (
 ) (called-at t) called.Post
 called-same-length-6 t c = search needs
 
--- src/lib.rt:228:1
 called-returns-3 : (t : ℕ) → called-lts.Need-returns-3 (
   refused-reads.Asked,
   refused-reads.Learnt,
@@ -273,7 +259,6 @@ called-returns-3 t c =
     call-on w st _ _ fine _ own _ (a .0) _ _ _ _ _ (c .before .before .before .before .before .before .before .before .before .before .before .before .before .before .before .arguments .ensures .0) (a .1) _ (c .before .before .before .before .before .before .before .before .before .before .if2 .left) _ _ _ _ _
       (ap (λ r. r .body) (c .before .before .before .before .before .before .before .before .before .before .before .before .before .before .before .before .before .before .before .before .procedure-at .ensures)) (c .before .before .before .before .before .before .before .before .before .before .before .before .before .before .before .arguments .kept .1 .1 .1 .1 .0) (c .before .before .before .before .before .before .statement .ensures w)
 
--- src/lib.rt:143:9
 statement-begun-requires : (t : ℕ) → statement-lts.Need-begun-requires (
   begun-reads.Asked,
   begun-reads.Learnt,
@@ -292,7 +277,6 @@ statement-begun-requires : (t : ℕ) → statement-lts.Need-begun-requires (
 ) (statement-at t) statement′.Post
 statement-begun-requires t c κs = c .before .before .before .before .before .before .before .before .before .before .pre .1 .0
 
--- src/lib.rt:145:24
 statement-enum-known-rest : (t : ℕ) → statement-lts.Need-enum-known-rest (
   begun-reads.Asked,
   begun-reads.Learnt,
@@ -311,7 +295,6 @@ statement-enum-known-rest : (t : ℕ) → statement-lts.Need-enum-known-rest (
 ) (statement-at t) statement′.Post
 statement-enum-known-rest t c = search needs
 
--- src/lib.rt:145:33
 statement-kept-requires : (t : ℕ) → statement-lts.Need-kept-requires (
   begun-reads.Asked,
   begun-reads.Learnt,
@@ -330,7 +313,6 @@ statement-kept-requires : (t : ℕ) → statement-lts.Need-kept-requires (
 ) (statement-at t) statement′.Post
 statement-kept-requires t c κs = search needs
 
--- src/lib.rt:146:22
 statement-enum-known-rest-2 : (t : ℕ) → statement-lts.Need-enum-known-rest-2 (
   begun-reads.Asked,
   begun-reads.Learnt,
@@ -349,7 +331,6 @@ statement-enum-known-rest-2 : (t : ℕ) → statement-lts.Need-enum-known-rest-2
 ) (statement-at t) statement′.Post
 statement-enum-known-rest-2 t c = search needs
 
--- src/lib.rt:146:37
 statement-statement-requires : (t : ℕ) → statement-lts.Need-statement-requires (
   begun-reads.Asked,
   begun-reads.Learnt,
@@ -370,7 +351,6 @@ statement-statement-requires t c κs =
     let s = rw (c .before .before .before .before .rest2 .given .1) at (c .before .before .before .before .before .before .before .before .before .before .begun .ensures .0) in
     (omega (arith, s .1, c .before .before .before .before .before .before .before .before .before .before .before .before .before .before .before .before .before .before .before .before .before .pre .0, c .before .before .before .before .before .before .before .before .before .before .before .before .before .before .before .before .before .before .before .before .before .pre .1 .0 .inside, c .before .before .before .before .before .before .before .before .before .before .before .before .before .before .before .before .before .before .before .before .before .pre .1 .0 .code .few), (s .0, c .before .before .before .before .before .before .before .before .before .before .before .before .before .before .before .before .before .before .before .before .before .pre .1 .1))
 
--- src/lib.rt:146:32
 statement-kept-requires-2 : (t : ℕ) → statement-lts.Need-kept-requires-2 (
   begun-reads.Asked,
   begun-reads.Learnt,
@@ -389,7 +369,6 @@ statement-kept-requires-2 : (t : ℕ) → statement-lts.Need-kept-requires-2 (
 ) (statement-at t) statement′.Post
 statement-kept-requires-2 t c κs = search needs
 
--- src/lib.rt:147:21
 statement-enum-known-rest-3 : (t : ℕ) → statement-lts.Need-enum-known-rest-3 (
   begun-reads.Asked,
   begun-reads.Learnt,
@@ -408,7 +387,6 @@ statement-enum-known-rest-3 : (t : ℕ) → statement-lts.Need-enum-known-rest-3
 ) (statement-at t) statement′.Post
 statement-enum-known-rest-3 t c = search needs
 
--- src/lib.rt:147:37
 statement-turns-requires : (t : ℕ) → statement-lts.Need-turns-requires (
   begun-reads.Asked,
   begun-reads.Learnt,
@@ -429,7 +407,6 @@ statement-turns-requires t c κs =
     let s = rw (c .before .before .before .before .rest3 .given .1) at (c .before .before .before .before .before .before .before .before .before .before .begun .ensures .0) in
     (omega (arith, s .1 .0, s .1 .1, c .before .before .before .before .before .before .before .before .before .before .before .before .before .before .before .before .before .before .before .before .before .pre .0), (s .0, omega (arith, s .1 .0, s .1 .1), c .before .before .before .before .before .before .before .before .before .before .before .before .before .before .before .before .before .before .before .before .before .pre .1 .1))
 
--- src/lib.rt:147:32
 statement-kept-requires-3 : (t : ℕ) → statement-lts.Need-kept-requires-3 (
   begun-reads.Asked,
   begun-reads.Learnt,
@@ -448,7 +425,6 @@ statement-kept-requires-3 : (t : ℕ) → statement-lts.Need-kept-requires-3 (
 ) (statement-at t) statement′.Post
 statement-kept-requires-3 t c κs = search needs
 
--- src/lib.rt:148:31
 statement-enum-known-rest-4 : (t : ℕ) → statement-lts.Need-enum-known-rest-4 (
   begun-reads.Asked,
   begun-reads.Learnt,
@@ -467,7 +443,6 @@ statement-enum-known-rest-4 : (t : ℕ) → statement-lts.Need-enum-known-rest-4
 ) (statement-at t) statement′.Post
 statement-enum-known-rest-4 t c = search needs
 
--- src/lib.rt:149:18
 statement-called-requires : (t : ℕ) → statement-lts.Need-called-requires (
   begun-reads.Asked,
   begun-reads.Learnt,
@@ -487,7 +462,6 @@ statement-called-requires : (t : ℕ) → statement-lts.Need-called-requires (
 statement-called-requires t c κs =
     let s = rw (c .before .before .before .before .rest4 .given .1) at (c .before .before .before .before .before .before .before .before .before .before .begun .ensures .0) in (omega (arith, c .before .before .before .before .before .before .before .before .before .before .before .before .before .before .before .before .before .before .before .before .before .pre .0), (s, c .before .before .before .before .before .before .before .before .before .before .before .before .before .before .before .before .before .before .before .before .before .pre .1 .1))
 
--- src/lib.rt:149:13
 statement-kept-requires-4 : (t : ℕ) → statement-lts.Need-kept-requires-4 (
   begun-reads.Asked,
   begun-reads.Learnt,
@@ -506,7 +480,6 @@ statement-kept-requires-4 : (t : ℕ) → statement-lts.Need-kept-requires-4 (
 ) (statement-at t) statement′.Post
 statement-kept-requires-4 t c κs = search needs
 
--- src/lib.rt:151:23
 statement-enum-known-rest-5 : (t : ℕ) → statement-lts.Need-enum-known-rest-5 (
   begun-reads.Asked,
   begun-reads.Learnt,
@@ -525,7 +498,6 @@ statement-enum-known-rest-5 : (t : ℕ) → statement-lts.Need-enum-known-rest-5
 ) (statement-at t) statement′.Post
 statement-enum-known-rest-5 t c = search needs
 
--- src/lib.rt:152:17
 statement-statements-requires : (t : ℕ) → statement-lts.Need-statements-requires (
   begun-reads.Asked,
   begun-reads.Learnt,
@@ -546,7 +518,6 @@ statement-statements-requires t c κs =
     let s = rw (c .before .before .before .before .rest5 .given .1) at (c .before .before .before .before .before .before .before .before .before .before .begun .ensures .0) in
     (omega (arith, s .1 .0, c .before .before .before .before .before .before .before .before .before .before .before .before .before .before .before .before .before .before .before .before .before .pre .0, c .before .before .before .before .before .before .before .before .before .before .before .before .before .before .before .before .before .before .before .before .before .pre .1 .0 .inside, c .before .before .before .before .before .before .before .before .before .before .before .before .before .before .before .before .before .before .before .before .before .pre .1 .0 .code .few), (s .0, c .before .before .before .before .before .before .before .before .before .before .before .before .before .before .before .before .before .before .before .before .before .pre .1 .1))
 
--- src/lib.rt:155:17
 statement-kept-requires-5 : (t : ℕ) → statement-lts.Need-kept-requires-5 (
   begun-reads.Asked,
   begun-reads.Learnt,
@@ -565,7 +536,6 @@ statement-kept-requires-5 : (t : ℕ) → statement-lts.Need-kept-requires-5 (
 ) (statement-at t) statement′.Post
 statement-kept-requires-5 t c κs = search needs
 
--- src/lib.rt:155:17
 statement-same-length : (t : ℕ) → statement-lts.Need-same-length (
   begun-reads.Asked,
   begun-reads.Learnt,
@@ -584,7 +554,6 @@ statement-same-length : (t : ℕ) → statement-lts.Need-same-length (
 ) (statement-at t) statement′.Post
 statement-same-length t c = search needs
 
--- src/lib.rt:155:17
 statement-same-length-2 : (t : ℕ) → statement-lts.Need-same-length-2 (
   begun-reads.Asked,
   begun-reads.Learnt,
@@ -603,7 +572,6 @@ statement-same-length-2 : (t : ℕ) → statement-lts.Need-same-length-2 (
 ) (statement-at t) statement′.Post
 statement-same-length-2 t c = search needs
 
--- src/lib.rt:155:17
 statement-same-length-3 : (t : ℕ) → statement-lts.Need-same-length-3 (
   begun-reads.Asked,
   begun-reads.Learnt,
@@ -622,7 +590,6 @@ statement-same-length-3 : (t : ℕ) → statement-lts.Need-same-length-3 (
 ) (statement-at t) statement′.Post
 statement-same-length-3 t c = search needs
 
--- src/lib.rt:155:17
 statement-returns : (t : ℕ) → statement-lts.Need-returns (
   begun-reads.Asked,
   begun-reads.Learnt,
@@ -644,7 +611,6 @@ statement-returns t c =
     let o = rw (c .before .before .before .before .before .before .before .before .before .before .before .before .before .rest5 .given .1) at (c .before .before .before .before .before .before .before .before .before .before .before .before .before .before .before .before .before .before .before .begun .ensures .1 _ w _ ρ st fine) in
     led (o .1) (both-refused w st _ _ _ _ _ _ _ _ _ (c .before .before .before .before .before .before .before .before .statements .ensures w ρ st (o .0 .1)) (c .before .if1 .taken)))
 
--- src/lib.rt:157:18
 statement-block-end-requires : (t : ℕ) → statement-lts.Need-block-end-requires (
   begun-reads.Asked,
   begun-reads.Learnt,
@@ -664,7 +630,6 @@ statement-block-end-requires : (t : ℕ) → statement-lts.Need-block-end-requir
 statement-block-end-requires t c κs =
     (rw (c .before .before .before .before .before .before .before .before .before .before .before .before .before .before .rest5 .given .1) at (c .before .before .before .before .before .before .before .before .before .before .before .before .before .before .before .before .before .before .before .before .begun .ensures .0)) .1 .1
 
--- src/lib.rt:157:13
 statement-kept-requires-6 : (t : ℕ) → statement-lts.Need-kept-requires-6 (
   begun-reads.Asked,
   begun-reads.Learnt,
@@ -683,7 +648,6 @@ statement-kept-requires-6 : (t : ℕ) → statement-lts.Need-kept-requires-6 (
 ) (statement-at t) statement′.Post
 statement-kept-requires-6 t c κs = search needs
 
--- src/lib.rt:138:1
 statement-same-length-4 : (t : ℕ) → statement-lts.Need-same-length-4 (
   begun-reads.Asked,
   begun-reads.Learnt,
@@ -702,7 +666,6 @@ statement-same-length-4 : (t : ℕ) → statement-lts.Need-same-length-4 (
 ) (statement-at t) statement′.Post
 statement-same-length-4 t c = search needs
 
--- src/lib.rt:138:1
 statement-same-length-5 : (t : ℕ) → statement-lts.Need-same-length-5 (
   begun-reads.Asked,
   begun-reads.Learnt,
@@ -721,7 +684,6 @@ statement-same-length-5 : (t : ℕ) → statement-lts.Need-same-length-5 (
 ) (statement-at t) statement′.Post
 statement-same-length-5 t c = search needs
 
--- src/lib.rt:138:1
 statement-same-length-6 : (t : ℕ) → statement-lts.Need-same-length-6 (
   begun-reads.Asked,
   begun-reads.Learnt,
@@ -740,7 +702,6 @@ statement-same-length-6 : (t : ℕ) → statement-lts.Need-same-length-6 (
 ) (statement-at t) statement′.Post
 statement-same-length-6 t c = search needs
 
--- src/lib.rt:138:1
 statement-returns-2 : (t : ℕ) → statement-lts.Need-returns-2 (
   begun-reads.Asked,
   begun-reads.Learnt,
@@ -760,7 +721,6 @@ statement-returns-2 : (t : ℕ) → statement-lts.Need-returns-2 (
 statement-returns-2 t c =
     rw (c .kept .ensures) (λ w ρ st fine. finished (rw (c .before .before .rest .given .1) at (c .before .before .before .before .before .before .before .before .begun .ensures .1 _ w _ ρ st fine)))
 
--- src/lib.rt:138:1
 statement-same-length-7 : (t : ℕ) → statement-lts.Need-same-length-7 (
   begun-reads.Asked,
   begun-reads.Learnt,
@@ -779,7 +739,6 @@ statement-same-length-7 : (t : ℕ) → statement-lts.Need-same-length-7 (
 ) (statement-at t) statement′.Post
 statement-same-length-7 t c = search needs
 
--- src/lib.rt:138:1
 statement-same-length-8 : (t : ℕ) → statement-lts.Need-same-length-8 (
   begun-reads.Asked,
   begun-reads.Learnt,
@@ -798,7 +757,6 @@ statement-same-length-8 : (t : ℕ) → statement-lts.Need-same-length-8 (
 ) (statement-at t) statement′.Post
 statement-same-length-8 t c = search needs
 
--- src/lib.rt:138:1
 statement-same-length-9 : (t : ℕ) → statement-lts.Need-same-length-9 (
   begun-reads.Asked,
   begun-reads.Learnt,
@@ -817,7 +775,6 @@ statement-same-length-9 : (t : ℕ) → statement-lts.Need-same-length-9 (
 ) (statement-at t) statement′.Post
 statement-same-length-9 t c = search needs
 
--- src/lib.rt:138:1
 statement-returns-3 : (t : ℕ) → statement-lts.Need-returns-3 (
   begun-reads.Asked,
   begun-reads.Learnt,
@@ -837,7 +794,6 @@ statement-returns-3 : (t : ℕ) → statement-lts.Need-returns-3 (
 statement-returns-3 t c =
     rw (c .kept2 .ensures) (λ w ρ st fine. let o = rw (c .before .before .before .before .before .before .before .before .before .before .before .before .rest2 .given .1) at (c .before .before .before .before .before .before .before .before .before .before .before .before .before .before .before .before .before .before .begun .ensures .1 _ w _ ρ st fine) in led (o .1) (c .before .before .before .before .before .before .before .statement .ensures w ρ st (o .0)))
 
--- src/lib.rt:138:1
 statement-same-length-10 : (t : ℕ) → statement-lts.Need-same-length-10 (
   begun-reads.Asked,
   begun-reads.Learnt,
@@ -856,7 +812,6 @@ statement-same-length-10 : (t : ℕ) → statement-lts.Need-same-length-10 (
 ) (statement-at t) statement′.Post
 statement-same-length-10 t c = search needs
 
--- src/lib.rt:138:1
 statement-same-length-11 : (t : ℕ) → statement-lts.Need-same-length-11 (
   begun-reads.Asked,
   begun-reads.Learnt,
@@ -875,7 +830,6 @@ statement-same-length-11 : (t : ℕ) → statement-lts.Need-same-length-11 (
 ) (statement-at t) statement′.Post
 statement-same-length-11 t c = search needs
 
--- src/lib.rt:138:1
 statement-same-length-12 : (t : ℕ) → statement-lts.Need-same-length-12 (
   begun-reads.Asked,
   begun-reads.Learnt,
@@ -894,7 +848,6 @@ statement-same-length-12 : (t : ℕ) → statement-lts.Need-same-length-12 (
 ) (statement-at t) statement′.Post
 statement-same-length-12 t c = search needs
 
--- src/lib.rt:138:1
 statement-returns-4 : (t : ℕ) → statement-lts.Need-returns-4 (
   begun-reads.Asked,
   begun-reads.Learnt,
@@ -914,7 +867,6 @@ statement-returns-4 : (t : ℕ) → statement-lts.Need-returns-4 (
 statement-returns-4 t c =
     rw (c .kept3 .ensures) (λ w ρ st fine. let o = rw (c .before .before .before .before .before .before .before .before .before .before .before .before .rest3 .given .1) at (c .before .before .before .before .before .before .before .before .before .before .before .before .before .before .before .before .before .before .begun .ensures .1 _ w _ ρ st fine) in led (o .1) (c .before .before .before .before .before .before .before .turns .ensures w ρ st (o .0)))
 
--- src/lib.rt:138:1
 statement-same-length-13 : (t : ℕ) → statement-lts.Need-same-length-13 (
   begun-reads.Asked,
   begun-reads.Learnt,
@@ -933,7 +885,6 @@ statement-same-length-13 : (t : ℕ) → statement-lts.Need-same-length-13 (
 ) (statement-at t) statement′.Post
 statement-same-length-13 t c = search needs
 
--- src/lib.rt:138:1
 statement-same-length-14 : (t : ℕ) → statement-lts.Need-same-length-14 (
   begun-reads.Asked,
   begun-reads.Learnt,
@@ -952,7 +903,6 @@ statement-same-length-14 : (t : ℕ) → statement-lts.Need-same-length-14 (
 ) (statement-at t) statement′.Post
 statement-same-length-14 t c = search needs
 
--- src/lib.rt:138:1
 statement-same-length-15 : (t : ℕ) → statement-lts.Need-same-length-15 (
   begun-reads.Asked,
   begun-reads.Learnt,
@@ -971,7 +921,6 @@ statement-same-length-15 : (t : ℕ) → statement-lts.Need-same-length-15 (
 ) (statement-at t) statement′.Post
 statement-same-length-15 t c = search needs
 
--- src/lib.rt:138:1
 statement-returns-5 : (t : ℕ) → statement-lts.Need-returns-5 (
   begun-reads.Asked,
   begun-reads.Learnt,
@@ -991,7 +940,6 @@ statement-returns-5 : (t : ℕ) → statement-lts.Need-returns-5 (
 statement-returns-5 t c =
     rw (c .kept4 .ensures) (λ w ρ st fine. let o = rw (c .before .before .before .before .before .before .before .before .before .before .before .before .rest4 .given .1) at (c .before .before .before .before .before .before .before .before .before .before .before .before .before .before .before .before .before .before .begun .ensures .1 _ w _ ρ st fine) in led (o .1) (c .before .before .before .before .before .before .before .called .ensures w ρ st (o .0)))
 
--- src/lib.rt:138:1
 statement-same-length-16 : (t : ℕ) → statement-lts.Need-same-length-16 (
   begun-reads.Asked,
   begun-reads.Learnt,
@@ -1011,7 +959,6 @@ statement-same-length-16 : (t : ℕ) → statement-lts.Need-same-length-16 (
 statement-same-length-16 t c =
     c .before .before .before .before .before .before .before .before .before .before .before .statements .kept .1 .1 .1 .1 .0 ∙ c .before .before .before .before .before .before .before .before .before .before .before .before .before .before .before .before .before .before .before .before .before .before .begun .kept .1 .1 .1 .0
 
--- src/lib.rt:138:1
 statement-same-length-17 : (t : ℕ) → statement-lts.Need-same-length-17 (
   begun-reads.Asked,
   begun-reads.Learnt,
@@ -1030,7 +977,6 @@ statement-same-length-17 : (t : ℕ) → statement-lts.Need-same-length-17 (
 ) (statement-at t) statement′.Post
 statement-same-length-17 t c = c .before .before .before .before .before .before .before .before .before .before .before .statements .kept .1 .1 .1 .1 .1 .0
 
--- src/lib.rt:138:1
 statement-same-length-18 : (t : ℕ) → statement-lts.Need-same-length-18 (
   begun-reads.Asked,
   begun-reads.Learnt,
@@ -1050,7 +996,6 @@ statement-same-length-18 : (t : ℕ) → statement-lts.Need-same-length-18 (
 statement-same-length-18 t c =
     c .before .before .before .before .before .before .before .before .before .before .before .statements .kept .1 .1 .1 .1 .1 .1 .0 ∙ c .before .before .before .before .before .before .before .before .before .before .before .before .before .before .before .before .before .before .before .before .before .before .begun .kept .1 .1 .1 .1 .1 .0
 
--- src/lib.rt:138:1
 statement-returns-6 : (t : ℕ) → statement-lts.Need-returns-6 (
   begun-reads.Asked,
   begun-reads.Learnt,
@@ -1081,7 +1026,6 @@ abbrev statements-μ-loop : statements-lts.MeasureT-loop
 statements-μ-loop nodes procedures variables constants cells₀ slots₀ trace₀ inverse p n done₀ at₀ cells slots trace done at =
     65535 - at
 
--- src/lib.rt:169:9
 statements-returns : (t : ℕ) → statements-lts.Need-returns (
   next-at-reads.Asked,
   next-at-reads.Learnt,
@@ -1094,7 +1038,6 @@ statements-returns : (t : ℕ) → statements-lts.Need-returns (
 ) (statements-at t) statements.Post statements-Inv-loop statements-μ-loop
 statements-returns t c = λ w ρ st fine. none w _ _ ρ _ (c .if1 .taken) _ _ _ _
 
--- src/lib.rt:172:13
 statements-next-at-requires : (t : ℕ) → statements-lts.Need-next-at-requires (
   next-at-reads.Asked,
   next-at-reads.Learnt,
@@ -1107,7 +1050,6 @@ statements-next-at-requires : (t : ℕ) → statements-lts.Need-next-at-requires
 ) (statements-at t) statements.Post statements-Inv-loop statements-μ-loop
 statements-next-at-requires t c κs = search needs
 
--- src/lib.rt:173:13
 statements-statements-requires : (t : ℕ) → statements-lts.Need-statements-requires (
   next-at-reads.Asked,
   next-at-reads.Learnt,
@@ -1122,7 +1064,6 @@ statements-statements-requires t c κs =
     let sn = c .before .before .before .before .before .before .before .before .before .before .before .before .before .pre .1 .0 (c .before .before .before .before .before .if1 .left) in
     (omega (arith, next-behind sn, c .before .before .before .next-at .ensures, c .before .before .before .before .before .before .before .before .before .before .before .before .before .pre .0, sn .inside, sn .code .few), (rw (c .before .before .before .next-at .ensures) (next-chain sn), c .before .before .before .before .before .before .before .before .before .before .before .before .before .pre .1 .1))
 
--- src/lib.rt:176:13
 statements-kept-requires : (t : ℕ) → statements-lts.Need-kept-requires (
   next-at-reads.Asked,
   next-at-reads.Learnt,
@@ -1135,7 +1076,6 @@ statements-kept-requires : (t : ℕ) → statements-lts.Need-kept-requires (
 ) (statements-at t) statements.Post statements-Inv-loop statements-μ-loop
 statements-kept-requires t c κs = search needs
 
--- src/lib.rt:176:13
 statements-same-length : (t : ℕ) → statements-lts.Need-same-length (
   next-at-reads.Asked,
   next-at-reads.Learnt,
@@ -1148,7 +1088,6 @@ statements-same-length : (t : ℕ) → statements-lts.Need-same-length (
 ) (statements-at t) statements.Post statements-Inv-loop statements-μ-loop
 statements-same-length t c = search needs
 
--- src/lib.rt:176:13
 statements-same-length-2 : (t : ℕ) → statements-lts.Need-same-length-2 (
   next-at-reads.Asked,
   next-at-reads.Learnt,
@@ -1161,7 +1100,6 @@ statements-same-length-2 : (t : ℕ) → statements-lts.Need-same-length-2 (
 ) (statements-at t) statements.Post statements-Inv-loop statements-μ-loop
 statements-same-length-2 t c = search needs
 
--- src/lib.rt:176:13
 statements-same-length-3 : (t : ℕ) → statements-lts.Need-same-length-3 (
   next-at-reads.Asked,
   next-at-reads.Learnt,
@@ -1174,7 +1112,6 @@ statements-same-length-3 : (t : ℕ) → statements-lts.Need-same-length-3 (
 ) (statements-at t) statements.Post statements-Inv-loop statements-μ-loop
 statements-same-length-3 t c = search needs
 
--- src/lib.rt:176:13
 statements-returns-2 : (t : ℕ) → statements-lts.Need-returns-2 (
   next-at-reads.Asked,
   next-at-reads.Learnt,
@@ -1191,7 +1128,6 @@ statements-returns-2 t c =
     ran-same (list-inverse w sn _ (c .before .before .before .before .before .before .before .before .before .before .before .before .before .before .before .before .before .before .before .before .before .before .args .inverse) ρ _ (c .before .before .before .before .before .before .before .before .before .before .before .before .next-at .ensures) (c .before .before .before .before .before .before .before .before .before .before .before .before .before .if2 .taken))
       (both-refused w st _ _ _ _ _ _ _ _ _ (c .before .before .before .before .before .before .before .before .statements .ensures w ρ st (fine-rest w sn _ fine _ (c .before .before .before .before .before .before .before .before .before .before .before .before .next-at .ensures))) (c .before .if3 .taken)))
 
--- src/lib.rt:178:21
 statements-statement-requires : (t : ℕ) → statements-lts.Need-statement-requires (
   next-at-reads.Asked,
   next-at-reads.Learnt,
@@ -1205,7 +1141,6 @@ statements-statement-requires : (t : ℕ) → statements-lts.Need-statement-requ
 statements-statement-requires t c κs =
     (omega (arith, c .before .before .before .before .before .before .before .before .before .before .before .before .before .before .before .before .before .before .before .before .before .before .before .before .pre .0), (c .before .before .before .before .before .before .before .before .before .before .before .before .before .before .before .before .before .before .before .before .before .before .before .before .pre .1 .0 (c .before .before .before .before .before .before .before .before .before .before .before .before .before .before .before .before .if1 .left), c .before .before .before .before .before .before .before .before .before .before .before .before .before .before .before .before .before .before .before .before .before .before .before .before .pre .1 .1))
 
--- src/lib.rt:178:9
 statements-kept-requires-2 : (t : ℕ) → statements-lts.Need-kept-requires-2 (
   next-at-reads.Asked,
   next-at-reads.Learnt,
@@ -1218,7 +1153,6 @@ statements-kept-requires-2 : (t : ℕ) → statements-lts.Need-kept-requires-2 (
 ) (statements-at t) statements.Post statements-Inv-loop statements-μ-loop
 statements-kept-requires-2 t c κs = search needs
 
--- src/lib.rt:178:9
 statements-same-length-4 : (t : ℕ) → statements-lts.Need-same-length-4 (
   next-at-reads.Asked,
   next-at-reads.Learnt,
@@ -1231,7 +1165,6 @@ statements-same-length-4 : (t : ℕ) → statements-lts.Need-same-length-4 (
 ) (statements-at t) statements.Post statements-Inv-loop statements-μ-loop
 statements-same-length-4 t c = search needs
 
--- src/lib.rt:178:9
 statements-same-length-5 : (t : ℕ) → statements-lts.Need-same-length-5 (
   next-at-reads.Asked,
   next-at-reads.Learnt,
@@ -1244,7 +1177,6 @@ statements-same-length-5 : (t : ℕ) → statements-lts.Need-same-length-5 (
 ) (statements-at t) statements.Post statements-Inv-loop statements-μ-loop
 statements-same-length-5 t c = search needs
 
--- src/lib.rt:178:9
 statements-same-length-6 : (t : ℕ) → statements-lts.Need-same-length-6 (
   next-at-reads.Asked,
   next-at-reads.Learnt,
@@ -1257,7 +1189,6 @@ statements-same-length-6 : (t : ℕ) → statements-lts.Need-same-length-6 (
 ) (statements-at t) statements.Post statements-Inv-loop statements-μ-loop
 statements-same-length-6 t c = search needs
 
--- src/lib.rt:178:9
 statements-returns-3 : (t : ℕ) → statements-lts.Need-returns-3 (
   next-at-reads.Asked,
   next-at-reads.Learnt,
@@ -1275,7 +1206,6 @@ statements-returns-3 t c =
       (both-on w st _ _ _ _ _ _ _ _ _ (c .before .before .before .before .before .before .before .before .before .before .before .before .before .before .before .before .before .before .statements .ensures w ρ st (fine-rest w sn _ fine _ (c .before .before .before .before .before .before .before .before .before .before .before .before .before .before .before .before .before .before .before .before .before .before .next-at .ensures))) (c .before .before .before .before .before .before .before .before .before .before .before .if3 .left)
         (c .before .before .before .before .before .before .before .before .before .before .before .before .before .before .before .before .before .before .statements .kept .1 .1 .1 .1 .1 .0) _ _ _ _ (λ st₁. c .before .before .before .before .before .before .before .statement .ensures w ρ st₁ (fine-first w sn _ fine))))
 
--- src/lib.rt:182:5
 statements-loop-holds : (t : ℕ) → statements-lts.Need-loop-holds (
   next-at-reads.Asked,
   next-at-reads.Learnt,
@@ -1288,7 +1218,6 @@ statements-loop-holds : (t : ℕ) → statements-lts.Need-loop-holds (
 ) (statements-at t) statements.Post statements-Inv-loop statements-μ-loop
 statements-loop-holds t c = follows-starts _ _ _ _ _ _ _ (c .before .before .before .before .before .before .before .before .before .pre .1 .0)
 
--- src/lib.rt:183:21
 statements-statement-requires-2 : (t : ℕ) → statements-lts.Need-statement-requires-2 (
   next-at-reads.Asked,
   next-at-reads.Learnt,
@@ -1303,7 +1232,6 @@ statements-statement-requires-2 t c κs =
     let sm = c .before .before .before .before .loop .inv .chain (c .before .before .before .loop-test .taken) in
     (omega (arith, c .before .before .before .before .before .before .before .before .before .before .before .before .before .before .pre .0, c .before .before .before .before .loop .inv .onward, sm .inside, sm .code .few), (sm, c .before .before .before .before .before .before .before .before .before .before .before .before .before .before .pre .1 .1))
 
--- src/lib.rt:183:9
 statements-kept-requires-3 : (t : ℕ) → statements-lts.Need-kept-requires-3 (
   next-at-reads.Asked,
   next-at-reads.Learnt,
@@ -1316,7 +1244,6 @@ statements-kept-requires-3 : (t : ℕ) → statements-lts.Need-kept-requires-3 (
 ) (statements-at t) statements.Post statements-Inv-loop statements-μ-loop
 statements-kept-requires-3 t c κs = search needs
 
--- src/lib.rt:186:13
 statements-kept-requires-4 : (t : ℕ) → statements-lts.Need-kept-requires-4 (
   next-at-reads.Asked,
   next-at-reads.Learnt,
@@ -1329,7 +1256,6 @@ statements-kept-requires-4 : (t : ℕ) → statements-lts.Need-kept-requires-4 (
 ) (statements-at t) statements.Post statements-Inv-loop statements-μ-loop
 statements-kept-requires-4 t c κs = search needs
 
--- src/lib.rt:186:13
 statements-same-length-7 : (t : ℕ) → statements-lts.Need-same-length-7 (
   next-at-reads.Asked,
   next-at-reads.Learnt,
@@ -1343,7 +1269,6 @@ statements-same-length-7 : (t : ℕ) → statements-lts.Need-same-length-7 (
 statements-same-length-7 t c =
     c .before .before .before .before .before .before .before .before .before .statement2 .kept .1 .1 .1 .1 .0 ∙ c .before .before .before .before .before .before .before .before .before .before .before .before .before .before .loop .inv .cells-long
 
--- src/lib.rt:186:13
 statements-same-length-8 : (t : ℕ) → statements-lts.Need-same-length-8 (
   next-at-reads.Asked,
   next-at-reads.Learnt,
@@ -1357,7 +1282,6 @@ statements-same-length-8 : (t : ℕ) → statements-lts.Need-same-length-8 (
 statements-same-length-8 t c =
     c .before .before .before .before .before .before .before .before .before .statement2 .kept .1 .1 .1 .1 .1 .0 ∙ c .before .before .before .before .before .before .before .before .before .before .before .before .before .before .loop .inv .slots-long
 
--- src/lib.rt:186:13
 statements-same-length-9 : (t : ℕ) → statements-lts.Need-same-length-9 (
   next-at-reads.Asked,
   next-at-reads.Learnt,
@@ -1371,7 +1295,6 @@ statements-same-length-9 : (t : ℕ) → statements-lts.Need-same-length-9 (
 statements-same-length-9 t c =
     c .before .before .before .before .before .before .before .before .before .statement2 .kept .1 .1 .1 .1 .1 .1 .0 ∙ c .before .before .before .before .before .before .before .before .before .before .before .before .before .before .loop .inv .trace-long
 
--- src/lib.rt:186:13
 statements-returns-4 : (t : ℕ) → statements-lts.Need-returns-4 (
   next-at-reads.Asked,
   next-at-reads.Learnt,
@@ -1387,7 +1310,6 @@ statements-returns-4 t c =
       (follows-stops _ _ (c .before .before .before .before .before .before .before .before .before .before .before .before .before .before .before .before .before .before .before .before .before .before .before .before .args .inverse) _ _ _ _ _ (c .before .before .before .before .before .before .before .before .before .before .before .before .before .before .loop .inv) (c .before .before .before .before .before .before .before .before .before .before .before .before .before .before .before .if2 .left) (c .before .before .before .before .before .before .before .before .before .before .before .before .before .before .loop .inv .chain (c .before .before .before .before .before .before .before .before .before .before .before .before .before .loop-test .taken)) _ _ _ _
         (c .before .before .before .before .before .before .before .before .before .statement2 .ensures) (rw (c .before .before .kept3 .ensures) at (c .before .if4 .taken)))
 
--- src/lib.rt:188:9
 statements-next-at-requires-2 : (t : ℕ) → statements-lts.Need-next-at-requires-2 (
   next-at-reads.Asked,
   next-at-reads.Learnt,
@@ -1400,7 +1322,6 @@ statements-next-at-requires-2 : (t : ℕ) → statements-lts.Need-next-at-requir
 ) (statements-at t) statements.Post statements-Inv-loop statements-μ-loop
 statements-next-at-requires-2 t c κs = search needs
 
--- src/lib.rt:182:5
 statements-loop-less : (t : ℕ) → statements-lts.Need-loop-less (
   next-at-reads.Asked,
   next-at-reads.Learnt,
@@ -1415,7 +1336,6 @@ statements-loop-less t c =
     let sm = c .before .before .before .before .before .before .before .before .before .before .before .before .before .before .loop .inv .chain (c .before .before .before .before .before .before .before .before .before .before .before .before .before .loop-test .taken) in
     omega (arith, next-behind sm, c .next-at2 .ensures, sm .inside, sm .code .few)
 
--- src/lib.rt:182:5
 statements-loop-again : (t : ℕ) → statements-lts.Need-loop-again (
   next-at-reads.Asked,
   next-at-reads.Learnt,
@@ -1437,7 +1357,6 @@ statements-loop-again t c =
       followed = followed-on _ _ (c .before .before .before .before .before .before .before .before .before .before .before .before .before .before .before .before .before .before .before .before .before .before .before .before .args .inverse) _ _ _ _ _ (c .before .before .before .before .before .before .before .before .before .before .before .before .before .before .loop .inv) (c .before .before .before .before .before .before .before .before .before .before .before .before .before .before .before .if2 .left) sm _ _ _ _
         (c .before .before .before .before .before .before .before .before .before .statement2 .ensures) (rw (c .before .before .kept3 .ensures) at (c .before .if4 .left)) _ (c .next-at2 .ensures) })
 
--- src/lib.rt:190:5
 statements-kept-requires-5 : (t : ℕ) → statements-lts.Need-kept-requires-5 (
   next-at-reads.Asked,
   next-at-reads.Learnt,
@@ -1450,7 +1369,6 @@ statements-kept-requires-5 : (t : ℕ) → statements-lts.Need-kept-requires-5 (
 ) (statements-at t) statements.Post statements-Inv-loop statements-μ-loop
 statements-kept-requires-5 t c κs = search needs
 
--- src/lib.rt:163:1
 statements-same-length-10 : (t : ℕ) → statements-lts.Need-same-length-10 (
   next-at-reads.Asked,
   next-at-reads.Learnt,
@@ -1463,7 +1381,6 @@ statements-same-length-10 : (t : ℕ) → statements-lts.Need-same-length-10 (
 ) (statements-at t) statements.Post statements-Inv-loop statements-μ-loop
 statements-same-length-10 t c = c .before .before .loop .inv .cells-long
 
--- src/lib.rt:163:1
 statements-same-length-11 : (t : ℕ) → statements-lts.Need-same-length-11 (
   next-at-reads.Asked,
   next-at-reads.Learnt,
@@ -1476,7 +1393,6 @@ statements-same-length-11 : (t : ℕ) → statements-lts.Need-same-length-11 (
 ) (statements-at t) statements.Post statements-Inv-loop statements-μ-loop
 statements-same-length-11 t c = c .before .before .loop .inv .slots-long
 
--- src/lib.rt:163:1
 statements-same-length-12 : (t : ℕ) → statements-lts.Need-same-length-12 (
   next-at-reads.Asked,
   next-at-reads.Learnt,
@@ -1489,7 +1405,6 @@ statements-same-length-12 : (t : ℕ) → statements-lts.Need-same-length-12 (
 ) (statements-at t) statements.Post statements-Inv-loop statements-μ-loop
 statements-same-length-12 t c = c .before .before .loop .inv .trace-long
 
--- src/lib.rt:163:1
 statements-returns-5 : (t : ℕ) → statements-lts.Need-returns-5 (
   next-at-reads.Asked,
   next-at-reads.Learnt,
@@ -1511,7 +1426,6 @@ abbrev turns-μ-loop : turns-lts.MeasureT-loop
 turns-μ-loop nodes procedures variables constants cells₀ slots₀ trace₀ inverse p it counter₀ done₀ left₀ cells slots trace counter done left =
     left
 
--- src/lib.rt:199:5
 turns-put-requires : (t : ℕ) → turns-lts.Need-put-requires (
   put-reads.Asked,
   put-reads.Learnt,
@@ -1526,7 +1440,6 @@ turns-put-requires : (t : ℕ) → turns-lts.Need-put-requires (
 ) (turns-at t) turns.Post turns-Inv-loop turns-μ-loop
 turns-put-requires t c κs = search needs
 
--- src/lib.rt:200:9
 turns-cell-requires : (t : ℕ) → turns-lts.Need-cell-requires (
   put-reads.Asked,
   put-reads.Learnt,
@@ -1541,7 +1454,6 @@ turns-cell-requires : (t : ℕ) → turns-lts.Need-cell-requires (
 ) (turns-at t) turns.Post turns-Inv-loop turns-μ-loop
 turns-cell-requires t c κs = search needs
 
--- src/lib.rt:203:5
 turns-loop-holds : (t : ℕ) → turns-lts.Need-loop-holds (
   put-reads.Asked,
   put-reads.Learnt,
@@ -1556,7 +1468,6 @@ turns-loop-holds : (t : ℕ) → turns-lts.Need-loop-holds (
 ) (turns-at t) turns.Post turns-Inv-loop turns-μ-loop
 turns-loop-holds t c = record { counts = c .cell .ensures; cells-long = refl; slots-long = refl; trace-long = refl; turned = turned-starts _ _ _ _ _ _ _ }
 
--- src/lib.rt:205:13
 turns-refused-requires : (t : ℕ) → turns-lts.Need-refused-requires (
   put-reads.Asked,
   put-reads.Learnt,
@@ -1571,7 +1482,6 @@ turns-refused-requires : (t : ℕ) → turns-lts.Need-refused-requires (
 ) (turns-at t) turns.Post turns-Inv-loop turns-μ-loop
 turns-refused-requires t c κs = search needs
 
--- src/lib.rt:205:13
 turns-same-length : (t : ℕ) → turns-lts.Need-same-length (
   put-reads.Asked,
   put-reads.Learnt,
@@ -1587,7 +1497,6 @@ turns-same-length : (t : ℕ) → turns-lts.Need-same-length (
 turns-same-length t c =
     c .before .before .before .before .loop .inv .cells-long ∙ c .before .before .before .before .before .before .before .before .before .put .kept .0
 
--- src/lib.rt:205:13
 turns-same-length-2 : (t : ℕ) → turns-lts.Need-same-length-2 (
   put-reads.Asked,
   put-reads.Learnt,
@@ -1602,7 +1511,6 @@ turns-same-length-2 : (t : ℕ) → turns-lts.Need-same-length-2 (
 ) (turns-at t) turns.Post turns-Inv-loop turns-μ-loop
 turns-same-length-2 t c = c .before .before .before .before .loop .inv .slots-long
 
--- src/lib.rt:205:13
 turns-same-length-3 : (t : ℕ) → turns-lts.Need-same-length-3 (
   put-reads.Asked,
   put-reads.Learnt,
@@ -1617,7 +1525,6 @@ turns-same-length-3 : (t : ℕ) → turns-lts.Need-same-length-3 (
 ) (turns-at t) turns.Post turns-Inv-loop turns-μ-loop
 turns-same-length-3 t c = c .before .before .before .before .loop .inv .trace-long
 
--- src/lib.rt:205:13
 turns-returns : (t : ℕ) → turns-lts.Need-returns (
   put-reads.Asked,
   put-reads.Learnt,
@@ -1636,7 +1543,6 @@ turns-returns t c =
       (λ e. omega (arith, c .refused .ensures .number-is, e))
       (λ st₁ k h. no-turn _ _ (c .before .before .before .before .before .before .before .before .before .before .before .before .before .before .before .before .before .before .args .it) _ _ _ _ _ _ (λ e. c .before .before .if1 .taken (c .before .before .before .before .loop .inv .counts ∙ e)) k h (c .before .if2 .taken) _ (c .refused .ensures))
 
--- src/lib.rt:207:16
 turns-sub-left : (t : ℕ) → turns-lts.Need-sub-left (
   put-reads.Asked,
   put-reads.Learnt,
@@ -1651,7 +1557,6 @@ turns-sub-left : (t : ℕ) → turns-lts.Need-sub-left (
 ) (turns-at t) turns.Post turns-Inv-loop turns-μ-loop
 turns-sub-left t c = search needs
 
--- src/lib.rt:208:13
 turns-step-requires : (t : ℕ) → turns-lts.Need-step-requires (
   put-reads.Asked,
   put-reads.Learnt,
@@ -1666,7 +1571,6 @@ turns-step-requires : (t : ℕ) → turns-lts.Need-step-requires (
 ) (turns-at t) turns.Post turns-Inv-loop turns-μ-loop
 turns-step-requires t c κs = search needs
 
--- src/lib.rt:211:13
 turns-same-length-4 : (t : ℕ) → turns-lts.Need-same-length-4 (
   put-reads.Asked,
   put-reads.Learnt,
@@ -1682,7 +1586,6 @@ turns-same-length-4 : (t : ℕ) → turns-lts.Need-same-length-4 (
 turns-same-length-4 t c =
     c .before .before .before .before .before .before .before .before .loop .inv .cells-long ∙ c .before .before .before .before .before .before .before .before .before .before .before .before .before .put .kept .0
 
--- src/lib.rt:211:13
 turns-same-length-5 : (t : ℕ) → turns-lts.Need-same-length-5 (
   put-reads.Asked,
   put-reads.Learnt,
@@ -1697,7 +1600,6 @@ turns-same-length-5 : (t : ℕ) → turns-lts.Need-same-length-5 (
 ) (turns-at t) turns.Post turns-Inv-loop turns-μ-loop
 turns-same-length-5 t c = c .before .before .before .before .before .before .before .before .loop .inv .slots-long
 
--- src/lib.rt:211:13
 turns-same-length-6 : (t : ℕ) → turns-lts.Need-same-length-6 (
   put-reads.Asked,
   put-reads.Learnt,
@@ -1712,7 +1614,6 @@ turns-same-length-6 : (t : ℕ) → turns-lts.Need-same-length-6 (
 ) (turns-at t) turns.Post turns-Inv-loop turns-μ-loop
 turns-same-length-6 t c = c .before .before .before .step .kept .0 ∙ c .before .before .before .before .before .before .before .before .loop .inv .trace-long
 
--- src/lib.rt:211:13
 turns-returns-2 : (t : ℕ) → turns-lts.Need-returns-2 (
   put-reads.Asked,
   put-reads.Learnt,
@@ -1730,7 +1631,6 @@ turns-returns-2 t c =
     loop-stops _ _ _ _ _ _ _ _ (c .before .before .before .before .before .before .before .before .loop .inv .turned) (c .before .before .before .before .before .before .before .before .loop .inv .slots-long) _ (c .before .before .before .before .before .before .before .before .before .before .before .before .before .put .ensures) w ρ st fine _ _ _ _ (c .if3 .taken)
       (λ st₁ k h. turn-refused _ _ (c .before .before .before .before .before .before .before .before .before .before .before .before .before .before .before .before .before .before .before .before .before .before .args .it) _ _ _ _ _ _ (λ e. c .before .before .before .before .before .before .if1 .taken (c .before .before .before .before .before .before .before .before .loop .inv .counts ∙ e)) k h (c .before .before .before .before .before .if2 .left) _ _ (c .before .before .before .step .ensures _) (c .if3 .taken))
 
--- src/lib.rt:213:9
 turns-statement-requires : (t : ℕ) → turns-lts.Need-statement-requires (
   put-reads.Asked,
   put-reads.Learnt,
@@ -1746,7 +1646,6 @@ turns-statement-requires : (t : ℕ) → turns-lts.Need-statement-requires (
 turns-statement-requires t c κs =
     (omega (arith, c .before .before .before .before .before .before .before .before .before .before .before .before .before .before .before .before .before .before .before .before .before .before .before .before .before .pre .0, c .before .before .before .before .before .before .before .before .before .before .before .before .before .before .before .before .before .before .before .before .before .before .before .before .before .pre .1 .1), (c .before .before .before .before .before .before .before .before .before .before .before .before .before .before .before .before .before .before .before .before .before .before .before .before .before .pre .1 .0, c .before .before .before .before .before .before .before .before .before .before .before .before .before .before .before .before .before .before .before .before .before .before .before .before .before .pre .1 .2))
 
--- src/lib.rt:216:13
 turns-same-length-7 : (t : ℕ) → turns-lts.Need-same-length-7 (
   put-reads.Asked,
   put-reads.Learnt,
@@ -1762,7 +1661,6 @@ turns-same-length-7 : (t : ℕ) → turns-lts.Need-same-length-7 (
 turns-same-length-7 t c =
     c .before .before .before .before .before .before .before .statement .kept .1 .1 .1 .1 .0 ∙ c .before .before .before .before .before .before .before .before .before .before .before .before .before .before .before .before .before .before .before .loop .inv .cells-long ∙ c .before .before .before .before .before .before .before .before .before .before .before .before .before .before .before .before .before .before .before .before .before .before .before .before .put .kept .0
 
--- src/lib.rt:216:13
 turns-same-length-8 : (t : ℕ) → turns-lts.Need-same-length-8 (
   put-reads.Asked,
   put-reads.Learnt,
@@ -1778,7 +1676,6 @@ turns-same-length-8 : (t : ℕ) → turns-lts.Need-same-length-8 (
 turns-same-length-8 t c =
     c .before .before .before .before .before .before .before .statement .kept .1 .1 .1 .1 .1 .0 ∙ c .before .before .before .before .before .before .before .before .before .before .before .before .before .before .before .before .before .before .before .loop .inv .slots-long
 
--- src/lib.rt:216:13
 turns-same-length-9 : (t : ℕ) → turns-lts.Need-same-length-9 (
   put-reads.Asked,
   put-reads.Learnt,
@@ -1794,7 +1691,6 @@ turns-same-length-9 : (t : ℕ) → turns-lts.Need-same-length-9 (
 turns-same-length-9 t c =
     c .before .before .before .before .before .before .before .statement .kept .1 .1 .1 .1 .1 .1 .0 ∙ c .before .before .before .before .before .before .before .before .before .before .before .before .before .before .step .kept .0 ∙ c .before .before .before .before .before .before .before .before .before .before .before .before .before .before .before .before .before .before .before .loop .inv .trace-long
 
--- src/lib.rt:216:13
 turns-returns-3 : (t : ℕ) → turns-lts.Need-returns-3 (
   put-reads.Asked,
   put-reads.Learnt,
@@ -1813,7 +1709,6 @@ turns-returns-3 t c =
       (λ st₁ k h. body-refused _ _ (c .before .before .before .before .before .before .before .before .before .before .before .before .before .before .before .before .before .before .before .before .before .before .before .before .before .before .before .before .before .before .before .before .before .args .it) _ _ _ _ _ _ (λ e. c .before .before .before .before .before .before .before .before .before .before .before .before .before .before .before .before .before .if1 .taken (c .before .before .before .before .before .before .before .before .before .before .before .before .before .before .before .before .before .before .before .loop .inv .counts ∙ e)) k h (c .before .before .before .before .before .before .before .before .before .before .before .before .before .before .before .before .if2 .left) _ _ (c .before .before .before .before .before .before .before .before .before .before .before .before .before .before .step .ensures _) (c .before .before .before .before .before .before .before .before .before .before .before .if3 .left)
         _ _ _ _ (c .before .before .before .before .before .before .before .statement .ensures w ρ st₁ fine) (c .if4 .taken))
 
--- src/lib.rt:218:9
 turns-cell-requires-2 : (t : ℕ) → turns-lts.Need-cell-requires-2 (
   put-reads.Asked,
   put-reads.Learnt,
@@ -1828,7 +1723,6 @@ turns-cell-requires-2 : (t : ℕ) → turns-lts.Need-cell-requires-2 (
 ) (turns-at t) turns.Post turns-Inv-loop turns-μ-loop
 turns-cell-requires-2 t c κs = search needs
 
--- src/lib.rt:220:13
 turns-refused-requires-2 : (t : ℕ) → turns-lts.Need-refused-requires-2 (
   put-reads.Asked,
   put-reads.Learnt,
@@ -1843,7 +1737,6 @@ turns-refused-requires-2 : (t : ℕ) → turns-lts.Need-refused-requires-2 (
 ) (turns-at t) turns.Post turns-Inv-loop turns-μ-loop
 turns-refused-requires-2 t c κs = search needs
 
--- src/lib.rt:220:13
 turns-same-length-10 : (t : ℕ) → turns-lts.Need-same-length-10 (
   put-reads.Asked,
   put-reads.Learnt,
@@ -1859,7 +1752,6 @@ turns-same-length-10 : (t : ℕ) → turns-lts.Need-same-length-10 (
 turns-same-length-10 t c =
     c .before .before .before .before .before .before .before .before .before .before .before .before .statement .kept .1 .1 .1 .1 .0 ∙ c .before .before .before .before .before .before .before .before .before .before .before .before .before .before .before .before .before .before .before .before .before .before .before .before .loop .inv .cells-long ∙ c .before .before .before .before .before .before .before .before .before .before .before .before .before .before .before .before .before .before .before .before .before .before .before .before .before .before .before .before .before .put .kept .0
 
--- src/lib.rt:220:13
 turns-same-length-11 : (t : ℕ) → turns-lts.Need-same-length-11 (
   put-reads.Asked,
   put-reads.Learnt,
@@ -1875,7 +1767,6 @@ turns-same-length-11 : (t : ℕ) → turns-lts.Need-same-length-11 (
 turns-same-length-11 t c =
     c .before .before .before .before .before .before .before .before .before .before .before .before .statement .kept .1 .1 .1 .1 .1 .0 ∙ c .before .before .before .before .before .before .before .before .before .before .before .before .before .before .before .before .before .before .before .before .before .before .before .before .loop .inv .slots-long
 
--- src/lib.rt:220:13
 turns-same-length-12 : (t : ℕ) → turns-lts.Need-same-length-12 (
   put-reads.Asked,
   put-reads.Learnt,
@@ -1891,7 +1782,6 @@ turns-same-length-12 : (t : ℕ) → turns-lts.Need-same-length-12 (
 turns-same-length-12 t c =
     c .before .before .before .before .before .before .before .before .before .before .before .before .statement .kept .1 .1 .1 .1 .1 .1 .0 ∙ c .before .before .before .before .before .before .before .before .before .before .before .before .before .before .before .before .before .before .before .step .kept .0 ∙ c .before .before .before .before .before .before .before .before .before .before .before .before .before .before .before .before .before .before .before .before .before .before .before .before .loop .inv .trace-long
 
--- src/lib.rt:220:13
 turns-returns-4 : (t : ℕ) → turns-lts.Need-returns-4 (
   put-reads.Asked,
   put-reads.Learnt,
@@ -1911,7 +1801,6 @@ turns-returns-4 t c =
       (λ st₁ k h. met-first _ _ (c .before .before .before .before .before .before .before .before .before .before .before .before .before .before .before .before .before .before .before .before .before .before .before .before .before .before .before .before .before .before .before .before .before .before .before .before .before .before .args .it) _ _ _ _ _ _ (λ e. c .before .before .before .before .before .before .before .before .before .before .before .before .before .before .before .before .before .before .before .before .before .before .if1 .taken (c .before .before .before .before .before .before .before .before .before .before .before .before .before .before .before .before .before .before .before .before .before .before .before .before .loop .inv .counts ∙ e)) k h (c .before .before .before .before .before .before .before .before .before .before .before .before .before .before .before .before .before .before .before .before .before .if2 .left) _ _ (c .before .before .before .before .before .before .before .before .before .before .before .before .before .before .before .before .before .before .before .step .ensures _) (c .before .before .before .before .before .before .before .before .before .before .before .before .before .before .before .before .if3 .left)
         _ _ _ _ (c .before .before .before .before .before .before .before .before .before .before .before .before .statement .ensures w ρ st₁ fine) (c .before .before .before .before .before .if4 .left) (sym (c .before .before .before .cell2 .ensures) ∙ c .before .if5 .taken) _ (c .refused2 .ensures))
 
--- src/lib.rt:203:5
 turns-loop-less : (t : ℕ) → turns-lts.Need-loop-less (
   put-reads.Asked,
   put-reads.Learnt,
@@ -1927,7 +1816,6 @@ turns-loop-less : (t : ℕ) → turns-lts.Need-loop-less (
 turns-loop-less t c =
     omega (arith, c .before .before .before .before .before .before .before .before .before .before .before .before .before .before .before .before .before .before .before .before .if2 .left)
 
--- src/lib.rt:203:5
 turns-loop-again : (t : ℕ) → turns-lts.Need-loop-again (
   put-reads.Asked,
   put-reads.Learnt,
@@ -1949,7 +1837,6 @@ turns-loop-again t c =
       turned = turned-on _ _ _ _ _ _ _ _ (c .before .before .before .before .before .before .before .before .before .before .before .before .before .before .before .before .before .before .before .before .before .before .before .loop .inv .turned) (c .before .before .before .before .before .before .before .before .before .before .before .before .before .before .before .before .before .before .before .before .before .before .before .loop .inv .slots-long) (λ e. c .before .before .before .before .before .before .before .before .before .before .before .before .before .before .before .before .before .before .before .before .before .if1 .taken (c .before .before .before .before .before .before .before .before .before .before .before .before .before .before .before .before .before .before .before .before .before .before .before .loop .inv .counts ∙ e)) (c .before .before .before .before .before .before .before .before .before .before .before .before .before .before .before .before .before .before .before .before .if2 .left)
         _ _ (c .before .before .before .before .before .before .before .before .before .before .before .before .before .before .before .before .before .before .step .ensures _) (c .before .before .before .before .before .before .before .before .before .before .before .before .before .before .before .if3 .left) _ _ _ _ (c .before .before .before .before .before .before .before .before .before .before .before .statement .ensures) (c .before .before .before .before .if4 .left) (λ e. c .if5 .left (c .before .before .cell2 .ensures ∙ e)) }
 
--- src/lib.rt:223:5
 turns-put-requires-2 : (t : ℕ) → turns-lts.Need-put-requires-2 (
   put-reads.Asked,
   put-reads.Learnt,
@@ -1964,7 +1851,6 @@ turns-put-requires-2 : (t : ℕ) → turns-lts.Need-put-requires-2 (
 ) (turns-at t) turns.Post turns-Inv-loop turns-μ-loop
 turns-put-requires-2 t c κs = search needs
 
--- src/lib.rt:194:1
 turns-same-length-13 : (t : ℕ) → turns-lts.Need-same-length-13 (
   put-reads.Asked,
   put-reads.Learnt,
@@ -1980,7 +1866,6 @@ turns-same-length-13 : (t : ℕ) → turns-lts.Need-same-length-13 (
 turns-same-length-13 t c =
     c .before .before .put2 .kept .0 ∙ c .before .before .before .before .before .before .loop .inv .cells-long ∙ c .before .before .before .before .before .before .before .before .before .before .before .put .kept .0
 
--- src/lib.rt:194:1
 turns-same-length-14 : (t : ℕ) → turns-lts.Need-same-length-14 (
   put-reads.Asked,
   put-reads.Learnt,
@@ -1995,7 +1880,6 @@ turns-same-length-14 : (t : ℕ) → turns-lts.Need-same-length-14 (
 ) (turns-at t) turns.Post turns-Inv-loop turns-μ-loop
 turns-same-length-14 t c = c .before .before .before .before .before .before .loop .inv .slots-long
 
--- src/lib.rt:194:1
 turns-same-length-15 : (t : ℕ) → turns-lts.Need-same-length-15 (
   put-reads.Asked,
   put-reads.Learnt,
@@ -2010,7 +1894,6 @@ turns-same-length-15 : (t : ℕ) → turns-lts.Need-same-length-15 (
 ) (turns-at t) turns.Post turns-Inv-loop turns-μ-loop
 turns-same-length-15 t c = c .before .before .before .before .before .before .loop .inv .trace-long
 
--- src/lib.rt:194:1
 turns-returns-5 : (t : ℕ) → turns-lts.Need-returns-5 (
   put-reads.Asked,
   put-reads.Learnt,

@@ -15,54 +15,42 @@ use Rattle.executors.proofs.refused.Reads as refused-reads
 step-requires : tie.Need-step-requires
 step-requires c κs = search needs
 
--- src/lib.rt:122:9
 same-length : tie.Need-same-length
 same-length c = search needs
 
--- src/lib.rt:122:9
 returns : tie.Need-returns
 returns c =
     (tt, λ procedures w p ρ st fine. begin-refused w p _ ρ (c .before .before .before .before .before .before .before .before .before .before .before .pre) _ _ _ _ _ (c .before .before .before .step .ensures _) (c .if1 .taken))
 
--- src/lib.rt:124:29
 node-at-requires : tie.Need-node-at-requires
 node-at-requires c κs = search needs
 
--- src/lib.rt:124:21
 enum-known-node : tie.Need-enum-known-node
 enum-known-node c = search needs
 
--- src/lib.rt:125:31
 enum-told : tie.Need-enum-told
 enum-told c = search needs
 
--- src/lib.rt:125:31
 refused-requires : tie.Need-refused-requires
 refused-requires c κs = search needs
 
--- src/lib.rt:125:9
 same-length-2 : tie.Need-same-length-2
 same-length-2 c = search needs
 
--- src/lib.rt:125:9
 returns-2 : tie.Need-returns-2
 returns-2 c =
     (tt, λ procedures w p ρ st fine. absurd (never-refused (c .before .before .before .before .before .before .before .before .before .before .before .before .before .before .before .pre) _ _ (sym (c .before .before .before .node-at .ensures) ∙ c .before .enum-told .given .1)))
 
--- src/lib.rt:127:5
 performed-requires : tie.Need-performed-requires
 performed-requires c κs =
     opened-at (c .before .before .before .before .before .before .before .before .before .before .before .before .before .before .before .before .before .pre) _ (sym (c .before .before .before .before .before .node-at .ensures) ∙ c .before .before .before .node .given .1)
 
--- src/lib.rt:113:1
 same-length-3 : tie.Need-same-length-3
 same-length-3 c = search needs
 
--- src/lib.rt:113:1
 same-length-4 : tie.Need-same-length-4
 same-length-4 c = search needs
 
--- src/lib.rt:113:1
 returns-3 : tie.Need-returns-3
 returns-3 c =
     let e = sym (c .before .before .before .before .before .before .before .before .before .before .node-at .ensures) ∙ c .before .before .before .before .before .before .before .before .node .given .1 in

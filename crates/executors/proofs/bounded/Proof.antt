@@ -1,5 +1,5 @@
-use mathlib.Core.Path.{refl}
 -- A for: both bounds are worked out, and its turns are left.
+use mathlib.Core.Path.{refl}
 use Rattle.executors.specs.Leaves.{first-refused, second-refused, bounds-known}
 use borrow.Author.Needs.{needs}
 use Rattle.executors.proofs.bounded.Statement.{statement}
@@ -10,35 +10,29 @@ use Rattle.expressions.proofs.after.Reads as after-reads
 use Rattle.expressions.proofs.base_of.Reads as base-of-reads
 use Rattle.expressions.proofs.value.Reads as value-reads
 
--- src/lib.rt:66:9
 value-requires : tie.Need-value-requires
 value-requires c κs = c .before .before .before .before .before .before .before .pre .0
 
 after-requires : tie.Need-after-requires
 after-requires c κs = search needs
 
--- src/lib.rt:70:9
 same-length : tie.Need-same-length
 same-length c = search needs
 
--- src/lib.rt:70:9
 returns : tie.Need-returns
 returns c =
     (λ a. tt, λ procedures w p d ρ st mine within-a within-b fine.
       first-refused w st d _ _ _ _ _ _ _ within-a (c .before .before .before .before .value .ensures (w .h) (w .s) (w .program)) (c .before .after .ensures) (c .if1 .taken) _)
 
--- src/lib.rt:72:9
 value-requires-2 : tie.Need-value-requires-2
 value-requires-2 c κs = c .before .before .before .before .before .before .before .before .before .before .before .before .before .pre .1
 
 after-requires-2 : tie.Need-after-requires-2
 after-requires-2 c κs = search needs
 
--- src/lib.rt:76:9
 same-length-2 : tie.Need-same-length-2
 same-length-2 c = search needs
 
--- src/lib.rt:76:9
 returns-2 : tie.Need-returns-2
 returns-2 c =
     (λ a. tt, λ procedures w p d ρ st mine within-a within-b fine.
@@ -48,11 +42,9 @@ returns-2 c =
 base-of-requires : tie.Need-base-of-requires
 base-of-requires c κs = search needs
 
--- src/lib.rt:60:1
 same-length-3 : tie.Need-same-length-3
 same-length-3 c = search needs
 
--- src/lib.rt:60:1
 returns-3 : tie.Need-returns-3
 returns-3 c =
     (λ a. (a .0, (a .1, refl)), λ procedures w p d ρ st mine within-a within-b fine.

@@ -8,38 +8,31 @@ use Rattle.executors.proofs.decided.Lts as lts
 use Rattle.expressions.proofs.after.Reads as after-reads
 use Rattle.expressions.proofs.value.Reads as value-reads
 
--- src/lib.rt:46:9
 value-requires : tie.Need-value-requires
 value-requires c κs = c .before .before .before .before .before .before .before .pre
 
 after-requires : tie.Need-after-requires
 after-requires c κs = search needs
 
--- src/lib.rt:50:9
 same-length : tie.Need-same-length
 same-length c = search needs
 
--- src/lib.rt:50:9
 returns : tie.Need-returns
 returns c =
     (λ n a b. tt, λ procedures w p n d ρ st within a b.
       first-refused w st d _ _ _ _ _ _ _ within (c .before .before .before .before .value .ensures (w .h) (w .s) (w .program)) (c .before .after .ensures) (c .if1 .taken) _)
 
--- src/lib.rt:54:9
 same-length-2 : tie.Need-same-length-2
 same-length-2 c = search needs
 
--- src/lib.rt:54:9
 returns-2 : tie.Need-returns-2
 returns-2 c =
     (λ n a b. b, λ procedures w p n d ρ st within a b.
       (b, if-not w st d _ _ _ _ _ _ _ within (c .before .before .before .before .before .value .ensures (w .h) (w .s) (w .program)) (c .before .before .after .ensures) (c .before .if1 .left) _ _ (c .if2 .taken)))
 
--- src/lib.rt:40:1
 same-length-3 : tie.Need-same-length-3
 same-length-3 c = search needs
 
--- src/lib.rt:40:1
 returns-3 : tie.Need-returns-3
 returns-3 c =
     (λ n a b. a, λ procedures w p n d ρ st within a b.

@@ -17,65 +17,51 @@ use Rattle.executors.proofs.bounded.Reads as bounded-reads
 use Rattle.executors.proofs.decided.Reads as decided-reads
 use Rattle.executors.proofs.refused.Reads as refused-reads
 
--- src/lib.rt:90:24
 enum-told : tie.Need-enum-told
 enum-told c = search needs
 
--- src/lib.rt:91:24
 enum-known-node : tie.Need-enum-known-node
 enum-known-node c = search needs
 
--- src/lib.rt:92:28
 update-requires : tie.Need-update-requires
 update-requires c κs =
     let r = rw (c .before .before .before .node .given .1) at (c .before .before .before .before .before .before .before .before .before .before .before .pre .refers) in (target-indexed (c .before .before .before .before .before .before .before .before .before .before .before .pre .code) _ (r .0), child-readable (c .before .before .before .before .before .before .before .before .before .before .before .pre .code) isExpression (r .1))
 
--- src/lib.rt:94:22
 enum-known-node-2 : tie.Need-enum-known-node-2
 enum-known-node-2 c = search needs
 
--- src/lib.rt:94:54
 swap-requires : tie.Need-swap-requires
 swap-requires c κs =
     let r = rw (c .before .before .before .node2 .given .1) at (c .before .before .before .before .before .before .before .before .before .before .before .pre .refers) in (target-indexed (c .before .before .before .before .before .before .before .before .before .before .before .pre .code) _ (r .0), target-indexed (c .before .before .before .before .before .before .before .before .before .before .before .pre .code) _ (r .1))
 
--- src/lib.rt:95:33
 enum-known-node-3 : tie.Need-enum-known-node-3
 enum-known-node-3 c = search needs
 
--- src/lib.rt:96:28
 conditional-swap-requires : tie.Need-conditional-swap-requires
 conditional-swap-requires c κs =
     let r = rw (c .before .before .before .node3 .given .1) at (c .before .before .before .before .before .before .before .before .before .before .before .pre .refers) in
     (child-readable (c .before .before .before .before .before .before .before .before .before .before .before .pre .code) isExpression (r .0), target-indexed (c .before .before .before .before .before .before .before .before .before .before .before .pre .code) _ (r .1 .0), target-indexed (c .before .before .before .before .before .before .before .before .before .before .before .pre .code) _ (r .1 .1))
 
--- src/lib.rt:98:20
 enum-known-node-4 : tie.Need-enum-known-node-4
 enum-known-node-4 c = search needs
 
--- src/lib.rt:98:44
 decided-requires : tie.Need-decided-requires
 decided-requires c κs =
     let r = rw (c .before .before .before .node4 .given .1) at (c .before .before .before .before .before .before .before .before .before .before .before .pre .refers) in child-readable (c .before .before .before .before .before .before .before .before .before .before .before .pre .code) isExpression (r .0)
 
--- src/lib.rt:99:21
 enum-known-node-5 : tie.Need-enum-known-node-5
 enum-known-node-5 c = search needs
 
--- src/lib.rt:101:17
 bounded-requires : tie.Need-bounded-requires
 bounded-requires c κs =
     let r = rw (c .before .before .before .before .node5 .given .1) at (c .before .before .before .before .before .before .before .before .before .before .before .before .pre .refers) in (child-readable (c .before .before .before .before .before .before .before .before .before .before .before .before .pre .code) isExpression (r .1 .1 .0), child-readable (c .before .before .before .before .before .before .before .before .before .before .before .before .pre .code) isExpression (r .1 .0))
 
--- src/lib.rt:101:17
 same-length : tie.Need-same-length
 same-length c = search needs
 
--- src/lib.rt:101:17
 same-length-2 : tie.Need-same-length-2
 same-length-2 c = search needs
 
--- src/lib.rt:101:17
 returns : tie.Need-returns
 returns c =
     let r = rw (c .before .before .before .before .before .before .before .node5 .given .1) at (c .before .before .before .before .before .before .before .before .before .before .before .before .before .before .before .pre .refers) in
@@ -84,82 +70,64 @@ returns c =
       let i = for-within w st (c .before .before .before .before .before .before .before .before .before .before .before .before .before .before .before .args .inverse) _ fine _ _ _ _ means in
       rw (for-inverse w st (c .before .before .before .before .before .before .before .before .before .before .before .before .before .before .before .args .inverse) _ fine _ _ _ _ means (c .before .before .before .before .before .if1 .taken)) (c .before .before .bounded .ensures .1 procedures w p _ ρ st (i .0) (i .1 .1 .0) (i .1 .0) (i .1 .1 .1)))
 
--- src/lib.rt:103:13
 bounded-requires-2 : tie.Need-bounded-requires-2
 bounded-requires-2 c κs =
     let r = rw (c .before .before .before .before .node5 .given .1) at (c .before .before .before .before .before .before .before .before .before .before .before .before .pre .refers) in (child-readable (c .before .before .before .before .before .before .before .before .before .before .before .before .pre .code) isExpression (r .1 .0), child-readable (c .before .before .before .before .before .before .before .before .before .before .before .before .pre .code) isExpression (r .1 .1 .0))
 
--- src/lib.rt:105:22
 enum-known-node-6 : tie.Need-enum-known-node-6
 enum-known-node-6 c = search needs
 
--- src/lib.rt:106:24
 enum-known-node-7 : tie.Need-enum-known-node-7
 enum-known-node-7 c = search needs
 
--- src/lib.rt:107:23
 enum-known-node-8 : tie.Need-enum-known-node-8
 enum-known-node-8 c = search needs
 
--- src/lib.rt:108:29
 refused-requires : tie.Need-refused-requires
 refused-requires c κs = search needs
 
--- src/lib.rt:83:1
 returns-2 : tie.Need-returns-2
 returns-2 c = (tt, λ procedures w p ρ st is m fine. empty-done w st _ _ fine _ _ _ (rw (c .enum-told .given .1) at m))
 
--- src/lib.rt:83:1
 same-length-3 : tie.Need-same-length-3
 same-length-3 c = search needs
 
--- src/lib.rt:83:1
 same-length-4 : tie.Need-same-length-4
 same-length-4 c = search needs
 
--- src/lib.rt:83:1
 returns-3 : tie.Need-returns-3
 returns-3 c =
     (tt, λ procedures w p ρ st is m fine.
       update-done w st _ _ fine _ _ _ _ _ _ (c .before .before .before .before .before .before .before .before .node .given .0 .0) (c .before .before .before .before .before .before .before .before .node .given .0 .1 .0) (c .before .before .before .before .before .before .before .before .node .given .0 .1 .1 .0) (rw (c .before .before .before .before .before .before .before .before .node .given .1) at m) (λ g. c .before .before .before .before .update .ensures (w .h) (w .s) (w .program) g))
 
--- src/lib.rt:83:1
 same-length-5 : tie.Need-same-length-5
 same-length-5 c = search needs
 
--- src/lib.rt:83:1
 same-length-6 : tie.Need-same-length-6
 same-length-6 c = search needs
 
--- src/lib.rt:83:1
 returns-4 : tie.Need-returns-4
 returns-4 c =
     (tt, λ procedures w p ρ st is m fine.
       swap-done w st _ _ fine _ _ _ _ _ _ (c .before .before .before .before .before .before .before .before .node2 .given .0 .0) (c .before .before .before .before .before .before .before .before .node2 .given .0 .1 .0) (rw (c .before .before .before .before .before .before .before .before .node2 .given .1) at m) (c .before .before .before .before .swap .ensures (w .h) (w .s) (w .program)))
 
--- src/lib.rt:83:1
 same-length-7 : tie.Need-same-length-7
 same-length-7 c = search needs
 
--- src/lib.rt:83:1
 same-length-8 : tie.Need-same-length-8
 same-length-8 c = search needs
 
--- src/lib.rt:83:1
 returns-5 : tie.Need-returns-5
 returns-5 c =
     (tt, λ procedures w p ρ st is m fine.
       conditional-done w st _ _ fine _ _ _ _ _ _ (c .before .before .before .before .before .before .before .before .node3 .given .0 .0) (c .before .before .before .before .before .before .before .before .node3 .given .0 .1 .0) (c .before .before .before .before .before .before .before .before .node3 .given .0 .1 .1 .0) (rw (c .before .before .before .before .before .before .before .before .node3 .given .1) at m) (c .before .before .before .before .conditional-swap .ensures (w .h) (w .s) (w .program)))
 
--- src/lib.rt:83:1
 same-length-9 : tie.Need-same-length-9
 same-length-9 c = search needs
 
--- src/lib.rt:83:1
 same-length-10 : tie.Need-same-length-10
 same-length-10 c = search needs
 
--- src/lib.rt:83:1
 returns-6 : tie.Need-returns-6
 returns-6 c =
     let r = rw (c .before .before .before .before .before .before .node4 .given .1) at (c .before .before .before .before .before .before .before .before .before .before .before .before .before .before .pre .refers) in
@@ -167,15 +135,12 @@ returns-6 c =
       let i = if-left w st (directionOf (c .before .before .before .before .before .before .before .before .before .before .before .before .before .before .args .inverse)) (c .before .before .before .before .before .before .before .before .before .before .before .before .before .before .args .n) fine (c .before .before .before .before .before .before .node4 .given .0 .0) (c .before .before .before .before .before .before .node4 .given .0 .1 .0) (c .before .before .before .before .before .before .node4 .given .0 .1 .1 .0) (rw (c .before .before .before .before .before .before .node4 .given .1) at m) in
       rw (i .1) (c .before .before .decided .ensures .1 procedures w p _ _ ρ st (i .0 .0) (i .0 .1 .0) (i .0 .1 .1)))
 
--- src/lib.rt:83:1
 same-length-11 : tie.Need-same-length-11
 same-length-11 c = search needs
 
--- src/lib.rt:83:1
 same-length-12 : tie.Need-same-length-12
 same-length-12 c = search needs
 
--- src/lib.rt:83:1
 returns-7 : tie.Need-returns-7
 returns-7 c =
     let r = rw (c .before .before .before .before .before .before .before .node5 .given .1) at (c .before .before .before .before .before .before .before .before .before .before .before .before .before .before .before .pre .refers) in
@@ -184,26 +149,22 @@ returns-7 c =
       let i = for-within w st (c .before .before .before .before .before .before .before .before .before .before .before .before .before .before .before .args .inverse) _ fine _ _ _ _ means in
       rw (for-forward w st (c .before .before .before .before .before .before .before .before .before .before .before .before .before .before .before .args .inverse) _ fine _ _ _ _ means (c .before .before .before .before .before .if1 .left)) (c .before .before .bounded2 .ensures .1 procedures w p _ ρ st (i .0) (i .1 .0) (i .1 .1 .0) (i .1 .1 .1)))
 
--- src/lib.rt:83:1
 returns-8 : tie.Need-returns-8
 returns-8 c =
     let r = rw (c .before .node6 .given .1) at (c .before .before .before .before .before .before .before .before .before .pre .refers) in
     (child-arguments (c .before .before .before .before .before .before .before .before .before .pre .code) (r .1), λ procedures w p ρ st is m fine. call-left w st _ _ fine _ _ _ _ _ (rw (c .before .node6 .given .1) at m))
 
--- src/lib.rt:83:1
 returns-9 : tie.Need-returns-9
 returns-9 c =
     let r = rw (c .before .node7 .given .1) at (c .before .before .before .before .before .before .before .before .before .pre .refers) in
     (child-arguments (c .before .before .before .before .before .before .before .before .before .pre .code) (r .1), λ procedures w p ρ st is m fine. uncall-left w st _ _ fine _ _ _ _ _ (rw (c .before .node7 .given .1) at m))
 
--- src/lib.rt:83:1
 returns-10 : tie.Need-returns-10
 returns-10 c =
     let r = rw (c .before .node8 .given .1) at (c .before .before .before .before .before .before .before .before .before .pre .refers) in
     ((child-chain (c .before .before .before .before .before .before .before .before .before .pre .code) (r .1), (chain-behind (c .before .before .before .before .before .before .before .before .before .pre .code) (c .before .before .before .before .before .before .before .before .before .pre .inside) (r .1), omega (arith, r .0, c .before .before .before .before .before .before .before .before .before .pre .code .narrow))), λ procedures w p ρ st is m fine.
       block-left w st _ _ fine _ _ _ _ _ _ (rw (c .before .node8 .given .1) at m))
 
--- src/lib.rt:83:1
 returns-11 : tie.Need-returns-11
 returns-11 c = (tt, λ procedures w p ρ st is m fine. absurd (not-statement _ is (c .before .match .keys10)))
 

@@ -20,8 +20,6 @@ use Rattle.expressions.proofs.lend.Reads as lend-reads
 use Rattle.expressions.proofs.+arguments.{statement}
 use Rattle.expressions.proofs.+arguments.Tie.{close}
 
--- Each way out is one law of Lent. The measure is the distance from the last number: what follows an argument goes to a larger one, or is missing.
-
 abbrev μ-arguments : Measures 6 arguments-kinds.ps ℕ
 μ-arguments κs a = 65535 - a .1 .1 .1 .1 .1 .1 .1 .0
 

@@ -27,8 +27,6 @@ use Rattle.expressions.proofs.refused.Reads as refused-reads
 use Rattle.expressions.proofs.+value.{statement}
 use Rattle.expressions.proofs.+value.Tie.{close}
 
--- A node is decoded once; each way out is one law of Values for its case. The measure is the distance from the last number: references go to larger ones.
-
 abbrev μ-value : Measures 6 value-kinds.ps ℕ
 μ-value κs a = 65535 - a .1 .1 .1 .1 .1 .1 .0
 

@@ -5,8 +5,6 @@ use Rattle.expressions.proofs.Targets.{element-entry, unsafe-entry}
 use Rattle.expressions.proofs.lend.Statement.{statement}
 use Rattle.expressions.proofs.lend.Tie as tie
 
--- The row that is written is the lent slot, case by case.
-
 root-of-requires : tie.Need-root-of-requires
 root-of-requires c κs = search needs
 

@@ -14,27 +14,21 @@ use Rattle.firmware.proofs.hermes_check.Lts as lts
 use Rattle.checker.proofs.check.Reads as check-reads
 use Rattle.firmware.proofs.answered.Reads as answered-reads
 
--- src/lib.rt:25:9
 check-requires : tie.Need-check-requires
 check-requires c κs = search needs
 
--- src/lib.rt:26:22
 cast-answered : tie.Need-cast-answered
 cast-answered c = search needs
 
--- src/lib.rt:26:45
 cast-answered-2 : tie.Need-cast-answered-2
 cast-answered-2 c = search needs
 
--- src/lib.rt:26:5
 answered-requires : tie.Need-answered-requires
 answered-requires c κs = search needs
 
--- src/lib.rt:21:1
 same-length : tie.Need-same-length
 same-length c = search needs
 
--- src/lib.rt:21:1
 returns : tie.Need-returns
 returns c = record { answer-is = c .before .before .answered .ensures ∙ two-of-four (length (now (c .before .before .before .before .before .before .before .before .before .args .answer))) (c .before .before .before .before .before .before .check .result .number) (c .before .before .before .before .before .before .check .result .place) ∙ ap (λ (v : Verdict). fitted (length (now (c .before .before .before .before .before .before .before .before .before .args .answer))) (v .number ∷ v .place ∷ [])) (c .before .before .before .before .before .before .check .ensures) }
 

@@ -8,43 +8,33 @@ use Rattle.firmware.proofs.hermes_run.Lts as lts
 use Rattle.firmware.proofs.answered.Reads as answered-reads
 use Rattle.runner.proofs.run.Reads as run-reads
 
--- src/lib.rt:35:9
 run-requires : tie.Need-run-requires
 run-requires c κs = search needs
 
--- src/lib.rt:36:22
 cast-answered : tie.Need-cast-answered
 cast-answered c = search needs
 
--- src/lib.rt:36:41
 cast-answered-2 : tie.Need-cast-answered-2
 cast-answered-2 c = search needs
 
--- src/lib.rt:36:59
 cast-answered-3 : tie.Need-cast-answered-3
 cast-answered-3 c = search needs
 
--- src/lib.rt:36:5
 answered-requires : tie.Need-answered-requires
 answered-requires c κs = search needs
 
--- src/lib.rt:30:1
 same-length : tie.Need-same-length
 same-length c = search needs
 
--- src/lib.rt:30:1
 same-length-2 : tie.Need-same-length-2
 same-length-2 c = search needs
 
--- src/lib.rt:30:1
 same-length-3 : tie.Need-same-length-3
 same-length-3 c = search needs
 
--- src/lib.rt:30:1
 same-length-4 : tie.Need-same-length-4
 same-length-4 c = search needs
 
--- src/lib.rt:30:1
 returns : tie.Need-returns
 returns c = record { store-is = c .before .before .before .before .before .before .before .before .before .before .before .before .before .run .ensures .store-is; work-is = c .before .before .before .before .before .before .before .before .before .before .before .before .before .run .ensures .work-is; trace-is = c .before .before .before .before .before .before .before .before .before .before .before .before .before .run .ensures .trace-is; answer-is = c .before .before .answered .ensures ∙ rw (c .before .before .before .before .before .before .before .before .before .before .before .before .before .run .ensures .number-is, c .before .before .before .before .before .before .before .before .before .before .before .before .before .run .ensures .place-is, c .before .before .before .before .before .before .before .before .before .before .before .before .before .run .ensures .steps-are, c .before .before .before .before .before .before .before .before .before .before .before .before .before .run .ensures .entries-are) refl }
 

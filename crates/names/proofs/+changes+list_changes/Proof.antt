@@ -1,6 +1,6 @@
+-- The roots that a statement changes stand where its case says; what it refers to has a larger number.
 use Rattle.names.specs.Statements.{begun, known-begun, begun-behind, changed-empty, changed-update, changed-swap, changed-conditional, changed-if, changed-for, changed-call, changed-uncall, changed-block, changed-list, changed-none, update-target, swap-left, swap-right, conditional-left, conditional-right}
 use borrow.Author.Needs.{needs}
--- The roots that a statement changes stand where its case says; what it refers to has a larger number.
 use mathlib.Core.Path.{_≡_, refl, sym, _∙_}
 use Prim.Native.Nat.{_+_, _-_, _*_}
 use native.Mathlib.Omega.{arith}
@@ -50,7 +50,6 @@ list-changes-below t =
     (falls 2 list-changes-kinds.ps _<_ μ-list-changes t)
     list-changes.Pre
 
--- src/lib.rt:214:29
 changes-node-at-requires : (t : ℕ) → changes-lts.Need-node-at-requires (
   node-at-reads.Asked,
   node-at-reads.Learnt,
@@ -69,7 +68,6 @@ changes-node-at-requires : (t : ℕ) → changes-lts.Need-node-at-requires (
 ) (changes-at t) changes.Post
 changes-node-at-requires t c κs = search needs
 
--- src/lib.rt:214:21
 changes-enum-known-node : (t : ℕ) → changes-lts.Need-enum-known-node (
   node-at-reads.Asked,
   node-at-reads.Learnt,
@@ -88,7 +86,6 @@ changes-enum-known-node : (t : ℕ) → changes-lts.Need-enum-known-node (
 ) (changes-at t) changes.Post
 changes-enum-known-node t c = search needs
 
--- src/lib.rt:215:9
 changes-enum-told : (t : ℕ) → changes-lts.Need-enum-told (
   node-at-reads.Asked,
   node-at-reads.Learnt,
@@ -107,7 +104,6 @@ changes-enum-told : (t : ℕ) → changes-lts.Need-enum-told (
 ) (changes-at t) changes.Post
 changes-enum-told t c = search needs
 
--- src/lib.rt:215:9
 changes-returns : (t : ℕ) → changes-lts.Need-returns (
   node-at-reads.Asked,
   node-at-reads.Learnt,
@@ -126,7 +122,6 @@ changes-returns : (t : ℕ) → changes-lts.Need-returns (
 ) (changes-at t) changes.Post
 changes-returns t c = λ h s st. absurd (never-refused st (sym (c .before .before .node-at .ensures) ∙ c .enum-told .given .1))
 
--- src/lib.rt:218:24
 changes-enum-told-2 : (t : ℕ) → changes-lts.Need-enum-told-2 (
   node-at-reads.Asked,
   node-at-reads.Learnt,
@@ -145,7 +140,6 @@ changes-enum-told-2 : (t : ℕ) → changes-lts.Need-enum-told-2 (
 ) (changes-at t) changes.Post
 changes-enum-told-2 t c = search needs
 
--- src/lib.rt:219:24
 changes-enum-known-node-2 : (t : ℕ) → changes-lts.Need-enum-known-node-2 (
   node-at-reads.Asked,
   node-at-reads.Learnt,
@@ -164,7 +158,6 @@ changes-enum-known-node-2 : (t : ℕ) → changes-lts.Need-enum-known-node-2 (
 ) (changes-at t) changes.Post
 changes-enum-known-node-2 t c = search needs
 
--- src/lib.rt:219:70
 changes-root-of-requires : (t : ℕ) → changes-lts.Need-root-of-requires (
   node-at-reads.Asked,
   node-at-reads.Learnt,
@@ -183,7 +176,6 @@ changes-root-of-requires : (t : ℕ) → changes-lts.Need-root-of-requires (
 ) (changes-at t) changes.Post
 changes-root-of-requires t c κs = search needs
 
--- src/lib.rt:219:53
 changes-is-marked-requires : (t : ℕ) → changes-lts.Need-is-marked-requires (
   node-at-reads.Asked,
   node-at-reads.Learnt,
@@ -202,7 +194,6 @@ changes-is-marked-requires : (t : ℕ) → changes-lts.Need-is-marked-requires (
 ) (changes-at t) changes.Post
 changes-is-marked-requires t c κs = search needs
 
--- src/lib.rt:220:22
 changes-enum-known-node-3 : (t : ℕ) → changes-lts.Need-enum-known-node-3 (
   node-at-reads.Asked,
   node-at-reads.Learnt,
@@ -221,7 +212,6 @@ changes-enum-known-node-3 : (t : ℕ) → changes-lts.Need-enum-known-node-3 (
 ) (changes-at t) changes.Post
 changes-enum-known-node-3 t c = search needs
 
--- src/lib.rt:220:39
 changes-either-marked-requires : (t : ℕ) → changes-lts.Need-either-marked-requires (
   node-at-reads.Asked,
   node-at-reads.Learnt,
@@ -240,7 +230,6 @@ changes-either-marked-requires : (t : ℕ) → changes-lts.Need-either-marked-re
 ) (changes-at t) changes.Post
 changes-either-marked-requires t c κs = search needs
 
--- src/lib.rt:221:33
 changes-enum-known-node-4 : (t : ℕ) → changes-lts.Need-enum-known-node-4 (
   node-at-reads.Asked,
   node-at-reads.Learnt,
@@ -259,7 +248,6 @@ changes-enum-known-node-4 : (t : ℕ) → changes-lts.Need-enum-known-node-4 (
 ) (changes-at t) changes.Post
 changes-enum-known-node-4 t c = search needs
 
--- src/lib.rt:221:61
 changes-either-marked-requires-2 : (t : ℕ) → changes-lts.Need-either-marked-requires-2 (
   node-at-reads.Asked,
   node-at-reads.Learnt,
@@ -278,7 +266,6 @@ changes-either-marked-requires-2 : (t : ℕ) → changes-lts.Need-either-marked-
 ) (changes-at t) changes.Post
 changes-either-marked-requires-2 t c κs = search needs
 
--- src/lib.rt:222:20
 changes-enum-known-node-5 : (t : ℕ) → changes-lts.Need-enum-known-node-5 (
   node-at-reads.Asked,
   node-at-reads.Learnt,
@@ -297,7 +284,6 @@ changes-enum-known-node-5 : (t : ℕ) → changes-lts.Need-enum-known-node-5 (
 ) (changes-at t) changes.Post
 changes-enum-known-node-5 t c = search needs
 
--- src/lib.rt:222:44
 changes-changes-requires : (t : ℕ) → changes-lts.Need-changes-requires (
   node-at-reads.Asked,
   node-at-reads.Learnt,
@@ -317,7 +303,6 @@ changes-changes-requires : (t : ℕ) → changes-lts.Need-changes-requires (
 changes-changes-requires t c κs =
     let d = decoded (c .before .before .before .before .before .before .node-at .ensures) (c .before .before .before .before .node .given .1) (c .before .node5 .given .1) in (omega (arith, c .before .before .before .before .before .before .before .before .pre .0, behind (c .before .before .before .before .before .before .before .before .pre .1) d (λ h s r. r .1 .0)), known-child (c .before .before .before .before .before .before .before .before .pre .1) d (λ h s r. r .1 .0))
 
--- src/lib.rt:222:74
 changes-changes-requires-2 : (t : ℕ) → changes-lts.Need-changes-requires-2 (
   node-at-reads.Asked,
   node-at-reads.Learnt,
@@ -337,7 +322,6 @@ changes-changes-requires-2 : (t : ℕ) → changes-lts.Need-changes-requires-2 (
 changes-changes-requires-2 t c κs =
     let d = decoded (c .before .before .before .before .before .before .before .before .node-at .ensures) (c .before .before .before .before .before .before .node .given .1) (c .before .before .before .node5 .given .1) in (omega (arith, c .before .before .before .before .before .before .before .before .before .before .pre .0, behind (c .before .before .before .before .before .before .before .before .before .before .pre .1) d (λ h s r. r .1 .1)), known-child (c .before .before .before .before .before .before .before .before .before .before .pre .1) d (λ h s r. r .1 .1))
 
--- src/lib.rt:223:21
 changes-enum-known-node-6 : (t : ℕ) → changes-lts.Need-enum-known-node-6 (
   node-at-reads.Asked,
   node-at-reads.Learnt,
@@ -356,7 +340,6 @@ changes-enum-known-node-6 : (t : ℕ) → changes-lts.Need-enum-known-node-6 (
 ) (changes-at t) changes.Post
 changes-enum-known-node-6 t c = search needs
 
--- src/lib.rt:223:55
 changes-changes-requires-3 : (t : ℕ) → changes-lts.Need-changes-requires-3 (
   node-at-reads.Asked,
   node-at-reads.Learnt,
@@ -376,7 +359,6 @@ changes-changes-requires-3 : (t : ℕ) → changes-lts.Need-changes-requires-3 (
 changes-changes-requires-3 t c κs =
     let d = decoded (c .before .before .before .before .before .before .node-at .ensures) (c .before .before .before .before .node .given .1) (c .before .node6 .given .1) in (omega (arith, c .before .before .before .before .before .before .before .before .pre .0, behind (c .before .before .before .before .before .before .before .before .pre .1) d (λ h s r. r .1 .1 .1)), known-child (c .before .before .before .before .before .before .before .before .pre .1) d (λ h s r. r .1 .1 .1))
 
--- src/lib.rt:224:22
 changes-enum-known-node-7 : (t : ℕ) → changes-lts.Need-enum-known-node-7 (
   node-at-reads.Asked,
   node-at-reads.Learnt,
@@ -395,7 +377,6 @@ changes-enum-known-node-7 : (t : ℕ) → changes-lts.Need-enum-known-node-7 (
 ) (changes-at t) changes.Post
 changes-enum-known-node-7 t c = search needs
 
--- src/lib.rt:224:47
 changes-roots-marked-requires : (t : ℕ) → changes-lts.Need-roots-marked-requires (
   node-at-reads.Asked,
   node-at-reads.Learnt,
@@ -415,7 +396,6 @@ changes-roots-marked-requires : (t : ℕ) → changes-lts.Need-roots-marked-requ
 changes-roots-marked-requires t c κs =
     known-begun (c .before .before .before .before .before .before .before .before .pre .1) (decoded (c .before .before .before .before .before .before .node-at .ensures) (c .before .before .before .before .node .given .1) (c .before .node7 .given .1)) (λ h s r. r .1)
 
--- src/lib.rt:225:24
 changes-enum-known-node-8 : (t : ℕ) → changes-lts.Need-enum-known-node-8 (
   node-at-reads.Asked,
   node-at-reads.Learnt,
@@ -434,7 +414,6 @@ changes-enum-known-node-8 : (t : ℕ) → changes-lts.Need-enum-known-node-8 (
 ) (changes-at t) changes.Post
 changes-enum-known-node-8 t c = search needs
 
--- src/lib.rt:225:49
 changes-roots-marked-requires-2 : (t : ℕ) → changes-lts.Need-roots-marked-requires-2 (
   node-at-reads.Asked,
   node-at-reads.Learnt,
@@ -454,7 +433,6 @@ changes-roots-marked-requires-2 : (t : ℕ) → changes-lts.Need-roots-marked-re
 changes-roots-marked-requires-2 t c κs =
     known-begun (c .before .before .before .before .before .before .before .before .pre .1) (decoded (c .before .before .before .before .before .before .node-at .ensures) (c .before .before .before .before .node .given .1) (c .before .node8 .given .1)) (λ h s r. r .1)
 
--- src/lib.rt:226:23
 changes-enum-known-node-9 : (t : ℕ) → changes-lts.Need-enum-known-node-9 (
   node-at-reads.Asked,
   node-at-reads.Learnt,
@@ -473,7 +451,6 @@ changes-enum-known-node-9 : (t : ℕ) → changes-lts.Need-enum-known-node-9 (
 ) (changes-at t) changes.Post
 changes-enum-known-node-9 t c = search needs
 
--- src/lib.rt:226:52
 changes-list-changes-requires : (t : ℕ) → changes-lts.Need-list-changes-requires (
   node-at-reads.Asked,
   node-at-reads.Learnt,
@@ -493,7 +470,6 @@ changes-list-changes-requires : (t : ℕ) → changes-lts.Need-list-changes-requ
 changes-list-changes-requires t c κs =
     let d = decoded (c .before .before .before .before .before .before .node-at .ensures) (c .before .before .before .before .node .given .1) (c .before .node9 .given .1) in (omega (arith, c .before .before .before .before .before .before .before .before .pre .0, begun-behind (c .before .before .before .before .before .before .before .before .pre .1) d (λ h s r. r .1)), known-begun (c .before .before .before .before .before .before .before .before .pre .1) d (λ h s r. r .1))
 
--- src/lib.rt:210:1
 changes-returns-2 : (t : ℕ) → changes-lts.Need-returns-2 (
   node-at-reads.Asked,
   node-at-reads.Learnt,
@@ -513,7 +489,6 @@ changes-returns-2 : (t : ℕ) → changes-lts.Need-returns-2 (
 changes-returns-2 t c =
     λ h s st. rw (changed-empty st (decoded (c .before .before .before .before .before .node-at .ensures) (c .before .before .before .node .given .1) (c .enum-told2 .given .1))) touches-none
 
--- src/lib.rt:210:1
 changes-returns-3 : (t : ℕ) → changes-lts.Need-returns-3 (
   node-at-reads.Asked,
   node-at-reads.Learnt,
@@ -535,7 +510,6 @@ changes-returns-3 t c =
     let d = decoded (c .before .before .before .before .before .before .before .before .node-at .ensures) (c .before .before .before .before .before .before .node .given .1) (c .before .before .before .node2 .given .1) in
     rw (changed-update st d, ← c .before .root-of .ensures) (touches-one (rw (c .before .root-of .ensures) (root-small (update-target st d))) (c .is-marked .ensures))
 
--- src/lib.rt:210:1
 changes-returns-4 : (t : ℕ) → changes-lts.Need-returns-4 (
   node-at-reads.Asked,
   node-at-reads.Learnt,
@@ -557,7 +531,6 @@ changes-returns-4 t c =
     let d = decoded (c .before .before .before .before .before .before .before .node-at .ensures) (c .before .before .before .before .before .node .given .1) (c .before .before .node3 .given .1) in
     rw (changed-swap st d) (c .either-marked .ensures (root-small (swap-left st d)) (root-small (swap-right st d)))
 
--- src/lib.rt:210:1
 changes-returns-5 : (t : ℕ) → changes-lts.Need-returns-5 (
   node-at-reads.Asked,
   node-at-reads.Learnt,
@@ -579,7 +552,6 @@ changes-returns-5 t c =
     let d = decoded (c .before .before .before .before .before .before .before .node-at .ensures) (c .before .before .before .before .before .node .given .1) (c .before .before .node4 .given .1) in
     rw (changed-conditional st d) (c .either-marked2 .ensures (root-small (conditional-left st d)) (root-small (conditional-right st d)))
 
--- src/lib.rt:210:1
 changes-returns-6 : (t : ℕ) → changes-lts.Need-returns-6 (
   node-at-reads.Asked,
   node-at-reads.Learnt,
@@ -601,7 +573,6 @@ changes-returns-6 t c =
     let d = decoded (c .before .before .before .before .before .before .before .before .node-at .ensures) (c .before .before .before .before .before .before .node .given .1) (c .before .before .before .node5 .given .1) in
     rw (changed-if st d) (touches-left _ (c .before .changes .ensures h s (standing-child st (refers st d .1 .0))) (c .if1 .taken))
 
--- src/lib.rt:210:1
 changes-returns-7 : (t : ℕ) → changes-lts.Need-returns-7 (
   node-at-reads.Asked,
   node-at-reads.Learnt,
@@ -624,7 +595,6 @@ changes-returns-7 t c =
     rw (changed-if st d)
     (touches-right (c .before .before .changes .ensures h s (standing-child st (refers st d .1 .0))) (c .before .if1 .left) (c .changes2 .ensures h s (standing-child st (refers st d .1 .1))))
 
--- src/lib.rt:210:1
 changes-returns-8 : (t : ℕ) → changes-lts.Need-returns-8 (
   node-at-reads.Asked,
   node-at-reads.Learnt,
@@ -644,7 +614,6 @@ changes-returns-8 : (t : ℕ) → changes-lts.Need-returns-8 (
 changes-returns-8 t c =
     λ h s st. let d = decoded (c .before .before .before .before .before .before .before .node-at .ensures) (c .before .before .before .before .before .node .given .1) (c .before .before .node6 .given .1) in rw (changed-for st d) (c .changes3 .ensures h s (standing-child st (refers st d .1 .1 .1)))
 
--- src/lib.rt:210:1
 changes-returns-9 : (t : ℕ) → changes-lts.Need-returns-9 (
   node-at-reads.Asked,
   node-at-reads.Learnt,
@@ -664,7 +633,6 @@ changes-returns-9 : (t : ℕ) → changes-lts.Need-returns-9 (
 changes-returns-9 t c =
     λ h s st. let d = decoded (c .before .before .before .before .before .before .before .node-at .ensures) (c .before .before .before .before .before .node .given .1) (c .before .before .node7 .given .1) in rw (changed-call st d) (c .roots-marked .ensures h s (begun st (refers st d .1)))
 
--- src/lib.rt:210:1
 changes-returns-10 : (t : ℕ) → changes-lts.Need-returns-10 (
   node-at-reads.Asked,
   node-at-reads.Learnt,
@@ -684,7 +652,6 @@ changes-returns-10 : (t : ℕ) → changes-lts.Need-returns-10 (
 changes-returns-10 t c =
     λ h s st. let d = decoded (c .before .before .before .before .before .before .before .node-at .ensures) (c .before .before .before .before .before .node .given .1) (c .before .before .node8 .given .1) in rw (changed-uncall st d) (c .roots-marked2 .ensures h s (begun st (refers st d .1)))
 
--- src/lib.rt:210:1
 changes-returns-11 : (t : ℕ) → changes-lts.Need-returns-11 (
   node-at-reads.Asked,
   node-at-reads.Learnt,
@@ -704,7 +671,6 @@ changes-returns-11 : (t : ℕ) → changes-lts.Need-returns-11 (
 changes-returns-11 t c =
     λ h s st. let d = decoded (c .before .before .before .before .before .before .before .node-at .ensures) (c .before .before .before .before .before .node .given .1) (c .before .before .node9 .given .1) in rw (changed-block st d) (c .list-changes .ensures h s (begun st (refers st d .1)))
 
--- src/lib.rt:210:1
 changes-returns-12 : (t : ℕ) → changes-lts.Need-returns-12 (
   node-at-reads.Asked,
   node-at-reads.Learnt,
@@ -724,7 +690,6 @@ changes-returns-12 : (t : ℕ) → changes-lts.Need-returns-12 (
 changes-returns-12 t c =
     λ h s st. absurd (no-expression-arm (sym (c .before .before .before .before .node-at .ensures) ∙ c .before .before .node .given .1) st (c .match2 .keys10))
 
--- src/lib.rt:244:9
 list-changes-returns : (t : ℕ) → list-changes-lts.Need-returns (
   changes-below t,
   changes.Post,
@@ -735,7 +700,6 @@ list-changes-returns : (t : ℕ) → list-changes-lts.Need-returns (
 ) (list-changes-at t) list-changes.Post
 list-changes-returns t c = λ h s k. rw (changed-none k (c .if1 .taken)) touches-none
 
--- src/lib.rt:246:8
 list-changes-changes-requires : (t : ℕ) → list-changes-lts.Need-changes-requires (
   changes-below t,
   changes.Post,
@@ -746,7 +710,6 @@ list-changes-changes-requires : (t : ℕ) → list-changes-lts.Need-changes-requ
 ) (list-changes-at t) list-changes.Post
 list-changes-changes-requires t c κs = (omega (arith, c .before .before .pre .0), known-statement (c .before .before .pre .1) (c .if1 .left))
 
--- src/lib.rt:247:9
 list-changes-returns-2 : (t : ℕ) → list-changes-lts.Need-returns-2 (
   changes-below t,
   changes.Post,
@@ -760,7 +723,6 @@ list-changes-returns-2 t c =
     let st = chain-standing k (c .before .before .if1 .left) in
     rw (changed-list st refl, ← c .if2 .taken) (touches-left _ (c .before .changes .ensures h s st) (c .if2 .taken))
 
--- src/lib.rt:249:25
 list-changes-next-at-requires : (t : ℕ) → list-changes-lts.Need-next-at-requires (
   changes-below t,
   changes.Post,
@@ -771,7 +733,6 @@ list-changes-next-at-requires : (t : ℕ) → list-changes-lts.Need-next-at-requ
 ) (list-changes-at t) list-changes.Post
 list-changes-next-at-requires t c κs = search needs
 
--- src/lib.rt:249:5
 list-changes-list-changes-requires : (t : ℕ) → list-changes-lts.Need-list-changes-requires (
   changes-below t,
   changes.Post,
@@ -783,7 +744,6 @@ list-changes-list-changes-requires : (t : ℕ) → list-changes-lts.Need-list-ch
 list-changes-list-changes-requires t c κs =
     (omega (arith, c .before .before .before .before .before .pre .0, statement-ahead (c .before .before .before .before .before .pre .1) (c .before .before .before .if1 .left) (c .next-at .ensures)), known-statements (c .before .before .before .before .before .pre .1) (c .before .before .before .if1 .left) (c .next-at .ensures))
 
--- src/lib.rt:239:1
 list-changes-returns-3 : (t : ℕ) → list-changes-lts.Need-returns-3 (
   changes-below t,
   changes.Post,

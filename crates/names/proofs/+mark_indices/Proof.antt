@@ -1,5 +1,5 @@
-use borrow.Author.Needs.{needs}
 -- Along the chain, one index after the other.
+use borrow.Author.Needs.{needs}
 use mathlib.Core.Path.{_≡_, refl, sym, _∙_}
 use Prim.Native.Nat.{_-_}
 use native.Mathlib.Omega.{arith}
@@ -32,7 +32,6 @@ mark-indices-below t =
     (falls 2 mark-indices-kinds.ps _<_ μ-mark-indices t)
     mark-indices.Pre
 
--- src/lib.rt:186:9
 mark-indices-returns : (t : ℕ) → mark-indices-lts.Need-returns (
   lvalue-at-reads.Asked,
   lvalue-at-reads.Learnt,
@@ -45,7 +44,6 @@ mark-indices-returns : (t : ℕ) → mark-indices-lts.Need-returns (
 ) (mark-indices-at t) mark-indices.Post
 mark-indices-returns t c = λ h s k. rw (no-indices k (c .if1 .taken)) (adds-none _)
 
--- src/lib.rt:188:28
 mark-indices-lvalue-at-requires : (t : ℕ) → mark-indices-lts.Need-lvalue-at-requires (
   lvalue-at-reads.Asked,
   lvalue-at-reads.Learnt,
@@ -58,7 +56,6 @@ mark-indices-lvalue-at-requires : (t : ℕ) → mark-indices-lts.Need-lvalue-at-
 ) (mark-indices-at t) mark-indices.Post
 mark-indices-lvalue-at-requires t c κs = search needs
 
--- src/lib.rt:188:23
 mark-indices-enum-known-l : (t : ℕ) → mark-indices-lts.Need-enum-known-l (
   lvalue-at-reads.Asked,
   lvalue-at-reads.Learnt,
@@ -71,7 +68,6 @@ mark-indices-enum-known-l : (t : ℕ) → mark-indices-lts.Need-enum-known-l (
 ) (mark-indices-at t) mark-indices.Post
 mark-indices-enum-known-l t c = search needs
 
--- src/lib.rt:189:9
 mark-indices-enum-told : (t : ℕ) → mark-indices-lts.Need-enum-told (
   lvalue-at-reads.Asked,
   lvalue-at-reads.Learnt,
@@ -84,7 +80,6 @@ mark-indices-enum-told : (t : ℕ) → mark-indices-lts.Need-enum-told (
 ) (mark-indices-at t) mark-indices.Post
 mark-indices-enum-told t c = search needs
 
--- src/lib.rt:189:9
 mark-indices-returns-2 : (t : ℕ) → mark-indices-lts.Need-returns-2 (
   lvalue-at-reads.Asked,
   lvalue-at-reads.Learnt,
@@ -98,7 +93,6 @@ mark-indices-returns-2 : (t : ℕ) → mark-indices-lts.Need-returns-2 (
 mark-indices-returns-2 t c =
     λ h s k. absurd (no-other (chain-standing k (c .before .before .before .if1 .left)) (sym (c .before .before .lvalue-at .ensures) ∙ c .enum-told .given .1))
 
--- src/lib.rt:191:5
 mark-indices-mark-index-requires : (t : ℕ) → mark-indices-lts.Need-mark-index-requires (
   lvalue-at-reads.Asked,
   lvalue-at-reads.Learnt,
@@ -112,7 +106,6 @@ mark-indices-mark-index-requires : (t : ℕ) → mark-indices-lts.Need-mark-inde
 mark-indices-mark-index-requires t c κs =
     known-argument (c .before .before .before .before .before .before .before .pre .1) (c .before .before .before .before .before .if1 .left) (sym (c .before .before .before .before .lvalue-at .ensures) ∙ c .before .before .l .given .1)
 
--- src/lib.rt:192:25
 mark-indices-next-at-requires : (t : ℕ) → mark-indices-lts.Need-next-at-requires (
   lvalue-at-reads.Asked,
   lvalue-at-reads.Learnt,
@@ -125,7 +118,6 @@ mark-indices-next-at-requires : (t : ℕ) → mark-indices-lts.Need-next-at-requ
 ) (mark-indices-at t) mark-indices.Post
 mark-indices-next-at-requires t c κs = search needs
 
--- src/lib.rt:192:5
 mark-indices-mark-indices-requires : (t : ℕ) → mark-indices-lts.Need-mark-indices-requires (
   lvalue-at-reads.Asked,
   lvalue-at-reads.Learnt,
@@ -139,7 +131,6 @@ mark-indices-mark-indices-requires : (t : ℕ) → mark-indices-lts.Need-mark-in
 mark-indices-mark-indices-requires t c κs =
     (omega (arith, c .before .before .before .before .before .before .before .before .before .before .pre .0, argument-ahead (c .before .before .before .before .before .before .before .before .before .before .pre .1) (c .before .before .before .before .before .before .before .before .if1 .left) (c .before .next-at .ensures)), known-arguments (c .before .before .before .before .before .before .before .before .before .before .pre .1) (c .before .before .before .before .before .before .before .before .if1 .left) (c .before .next-at .ensures))
 
--- src/lib.rt:181:1
 mark-indices-returns-3 : (t : ℕ) → mark-indices-lts.Need-returns-3 (
   lvalue-at-reads.Asked,
   lvalue-at-reads.Learnt,

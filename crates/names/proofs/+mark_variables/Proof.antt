@@ -1,6 +1,6 @@
+-- The names are marked where the node's case says that names stand; what the node refers to has a larger number.
 use Rattle.names.specs.Marks.{adds-none, adds-both, adds-first}
 use borrow.Author.Needs.{needs}
--- The names are marked where the node's case says that names stand; what the node refers to has a larger number.
 use mathlib.Core.Path.{_≡_, refl, sym, ap, _∙_}
 use Prim.Native.Nat.{_-_}
 use native.Mathlib.Omega.{arith}
@@ -37,7 +37,6 @@ mark-variables-below t =
     (falls 2 mark-variables-kinds.ps _<_ μ-mark-variables t)
     mark-variables.Pre
 
--- src/lib.rt:81:29
 mark-variables-expression-at-requires : (t : ℕ) → mark-variables-lts.Need-expression-at-requires (
   expression-at-reads.Asked,
   expression-at-reads.Learnt,
@@ -48,7 +47,6 @@ mark-variables-expression-at-requires : (t : ℕ) → mark-variables-lts.Need-ex
 ) (mark-variables-at t) mark-variables.Post
 mark-variables-expression-at-requires t c κs = c .before .pre .1 .standing .classed
 
--- src/lib.rt:81:21
 mark-variables-enum-known-node : (t : ℕ) → mark-variables-lts.Need-enum-known-node (
   expression-at-reads.Asked,
   expression-at-reads.Learnt,
@@ -59,7 +57,6 @@ mark-variables-enum-known-node : (t : ℕ) → mark-variables-lts.Need-enum-know
 ) (mark-variables-at t) mark-variables.Post
 mark-variables-enum-known-node t c = search needs
 
--- src/lib.rt:82:9
 mark-variables-enum-told : (t : ℕ) → mark-variables-lts.Need-enum-told (
   expression-at-reads.Asked,
   expression-at-reads.Learnt,
@@ -70,7 +67,6 @@ mark-variables-enum-told : (t : ℕ) → mark-variables-lts.Need-enum-told (
 ) (mark-variables-at t) mark-variables.Post
 mark-variables-enum-told t c = search needs
 
--- src/lib.rt:82:9
 mark-variables-returns : (t : ℕ) → mark-variables-lts.Need-returns (
   expression-at-reads.Asked,
   expression-at-reads.Learnt,
@@ -81,7 +77,6 @@ mark-variables-returns : (t : ℕ) → mark-variables-lts.Need-returns (
 ) (mark-variables-at t) mark-variables.Post
 mark-variables-returns t c = λ h s st. absurd (never-refused st (sym (c .before .before .expression-at .ensures) ∙ c .enum-told .given .1))
 
--- src/lib.rt:85:26
 mark-variables-enum-known-node-2 : (t : ℕ) → mark-variables-lts.Need-enum-known-node-2 (
   expression-at-reads.Asked,
   expression-at-reads.Learnt,
@@ -92,7 +87,6 @@ mark-variables-enum-known-node-2 : (t : ℕ) → mark-variables-lts.Need-enum-kn
 ) (mark-variables-at t) mark-variables.Post
 mark-variables-enum-known-node-2 t c = search needs
 
--- src/lib.rt:86:23
 mark-variables-enum-known-node-3 : (t : ℕ) → mark-variables-lts.Need-enum-known-node-3 (
   expression-at-reads.Asked,
   expression-at-reads.Learnt,
@@ -103,7 +97,6 @@ mark-variables-enum-known-node-3 : (t : ℕ) → mark-variables-lts.Need-enum-kn
 ) (mark-variables-at t) mark-variables.Post
 mark-variables-enum-known-node-3 t c = search needs
 
--- src/lib.rt:87:32
 mark-variables-enum-known-lvalue : (t : ℕ) → mark-variables-lts.Need-enum-known-lvalue (
   expression-at-reads.Asked,
   expression-at-reads.Learnt,
@@ -114,7 +107,6 @@ mark-variables-enum-known-lvalue : (t : ℕ) → mark-variables-lts.Need-enum-kn
 ) (mark-variables-at t) mark-variables.Post
 mark-variables-enum-known-lvalue t c = search needs
 
--- src/lib.rt:87:52
 mark-variables-mark-requires : (t : ℕ) → mark-variables-lts.Need-mark-requires (
   expression-at-reads.Asked,
   expression-at-reads.Learnt,
@@ -125,7 +117,6 @@ mark-variables-mark-requires : (t : ℕ) → mark-variables-lts.Need-mark-requir
 ) (mark-variables-at t) mark-variables.Post
 mark-variables-mark-requires t c κs = search needs
 
--- src/lib.rt:88:31
 mark-variables-enum-known-lvalue-2 : (t : ℕ) → mark-variables-lts.Need-enum-known-lvalue-2 (
   expression-at-reads.Asked,
   expression-at-reads.Learnt,
@@ -136,7 +127,6 @@ mark-variables-enum-known-lvalue-2 : (t : ℕ) → mark-variables-lts.Need-enum-
 ) (mark-variables-at t) mark-variables.Post
 mark-variables-enum-known-lvalue-2 t c = search needs
 
--- src/lib.rt:89:17
 mark-variables-mark-requires-2 : (t : ℕ) → mark-variables-lts.Need-mark-requires-2 (
   expression-at-reads.Asked,
   expression-at-reads.Learnt,
@@ -147,7 +137,6 @@ mark-variables-mark-requires-2 : (t : ℕ) → mark-variables-lts.Need-mark-requ
 ) (mark-variables-at t) mark-variables.Post
 mark-variables-mark-requires-2 t c κs = search needs
 
--- src/lib.rt:90:17
 mark-variables-mark-variables-requires : (t : ℕ) → mark-variables-lts.Need-mark-variables-requires (
   expression-at-reads.Asked,
   expression-at-reads.Learnt,
@@ -159,7 +148,6 @@ mark-variables-mark-variables-requires : (t : ℕ) → mark-variables-lts.Need-m
 mark-variables-mark-variables-requires t c κs =
     let d = decoded-value (c .before .before .before .before .before .before .before .before .before .before .before .before .expression-at .ensures) (c .before .before .before .before .before .before .before .before .before .before .node .given .1) (c .before .before .before .before .before .before .before .node3 .given .1) (c .before .before .before .before .lvalue2 .given .1) in (omega (arith, c .before .before .before .before .before .before .before .before .before .before .before .before .before .before .pre .0, behind-index (c .before .before .before .before .before .before .before .before .before .before .before .before .before .before .pre .1) d (λ h s r. r .1)), known-index (c .before .before .before .before .before .before .before .before .before .before .before .before .before .before .pre .1) d (λ h s r. r .1))
 
--- src/lib.rt:92:30
 mark-variables-enum-known-lvalue-3 : (t : ℕ) → mark-variables-lts.Need-enum-known-lvalue-3 (
   expression-at-reads.Asked,
   expression-at-reads.Learnt,
@@ -170,7 +158,6 @@ mark-variables-enum-known-lvalue-3 : (t : ℕ) → mark-variables-lts.Need-enum-
 ) (mark-variables-at t) mark-variables.Post
 mark-variables-enum-known-lvalue-3 t c = search needs
 
--- src/lib.rt:93:17
 mark-variables-mark-requires-3 : (t : ℕ) → mark-variables-lts.Need-mark-requires-3 (
   expression-at-reads.Asked,
   expression-at-reads.Learnt,
@@ -181,7 +168,6 @@ mark-variables-mark-requires-3 : (t : ℕ) → mark-variables-lts.Need-mark-requ
 ) (mark-variables-at t) mark-variables.Post
 mark-variables-mark-requires-3 t c κs = search needs
 
--- src/lib.rt:94:17
 mark-variables-mark-variables-requires-2 :
     (t : ℕ) → mark-variables-lts.Need-mark-variables-requires-2 (
       expression-at-reads.Asked,
@@ -194,7 +180,6 @@ mark-variables-mark-variables-requires-2 :
 mark-variables-mark-variables-requires-2 t c κs =
     let d = decoded-value (c .before .before .before .before .before .before .before .before .before .before .before .before .expression-at .ensures) (c .before .before .before .before .before .before .before .before .before .before .node .given .1) (c .before .before .before .before .before .before .before .node3 .given .1) (c .before .before .before .before .lvalue3 .given .1) in (omega (arith, c .before .before .before .before .before .before .before .before .before .before .before .before .before .before .pre .0, behind-index (c .before .before .before .before .before .before .before .before .before .before .before .before .before .before .pre .1) d (λ h s r. r .1)), known-index (c .before .before .before .before .before .before .before .before .before .before .before .before .before .before .pre .1) d (λ h s r. r .1))
 
--- src/lib.rt:97:22
 mark-variables-enum-known-node-4 : (t : ℕ) → mark-variables-lts.Need-enum-known-node-4 (
   expression-at-reads.Asked,
   expression-at-reads.Learnt,
@@ -205,7 +190,6 @@ mark-variables-enum-known-node-4 : (t : ℕ) → mark-variables-lts.Need-enum-kn
 ) (mark-variables-at t) mark-variables.Post
 mark-variables-enum-known-node-4 t c = search needs
 
--- src/lib.rt:98:24
 mark-variables-enum-known-node-5 : (t : ℕ) → mark-variables-lts.Need-enum-known-node-5 (
   expression-at-reads.Asked,
   expression-at-reads.Learnt,
@@ -216,7 +200,6 @@ mark-variables-enum-known-node-5 : (t : ℕ) → mark-variables-lts.Need-enum-kn
 ) (mark-variables-at t) mark-variables.Post
 mark-variables-enum-known-node-5 t c = search needs
 
--- src/lib.rt:99:13
 mark-variables-mark-variables-requires-3 :
     (t : ℕ) → mark-variables-lts.Need-mark-variables-requires-3 (
       expression-at-reads.Asked,
@@ -229,7 +212,6 @@ mark-variables-mark-variables-requires-3 :
 mark-variables-mark-variables-requires-3 t c κs =
     let d = decoded (c .before .before .before .before .before .before .before .expression-at .ensures) (c .before .before .before .before .before .node .given .1) (c .before .before .node5 .given .1) in (omega (arith, c .before .before .before .before .before .before .before .before .before .pre .0, behind (c .before .before .before .before .before .before .before .before .before .pre .1) d (λ h s r. r .0)), known-child (c .before .before .before .before .before .before .before .before .before .pre .1) d (λ h s r. r .0))
 
--- src/lib.rt:100:13
 mark-variables-mark-variables-requires-4 :
     (t : ℕ) → mark-variables-lts.Need-mark-variables-requires-4 (
       expression-at-reads.Asked,
@@ -242,7 +224,6 @@ mark-variables-mark-variables-requires-4 :
 mark-variables-mark-variables-requires-4 t c κs =
     let d = decoded (c .before .before .before .before .before .before .before .before .before .expression-at .ensures) (c .before .before .before .before .before .before .before .node .given .1) (c .before .before .before .before .node5 .given .1) in (omega (arith, c .before .before .before .before .before .before .before .before .before .before .before .pre .0, behind (c .before .before .before .before .before .before .before .before .before .before .before .pre .1) d (λ h s r. r .1)), known-child (c .before .before .before .before .before .before .before .before .before .before .before .pre .1) d (λ h s r. r .1))
 
--- src/lib.rt:102:21
 mark-variables-enum-known-node-6 : (t : ℕ) → mark-variables-lts.Need-enum-known-node-6 (
   expression-at-reads.Asked,
   expression-at-reads.Learnt,
@@ -253,7 +234,6 @@ mark-variables-enum-known-node-6 : (t : ℕ) → mark-variables-lts.Need-enum-kn
 ) (mark-variables-at t) mark-variables.Post
 mark-variables-enum-known-node-6 t c = search needs
 
--- src/lib.rt:102:34
 mark-variables-mark-variables-requires-5 :
     (t : ℕ) → mark-variables-lts.Need-mark-variables-requires-5 (
       expression-at-reads.Asked,
@@ -266,7 +246,6 @@ mark-variables-mark-variables-requires-5 :
 mark-variables-mark-variables-requires-5 t c κs =
     let d = decoded (c .before .before .before .before .before .before .before .expression-at .ensures) (c .before .before .before .before .before .node .given .1) (c .before .before .node6 .given .1) in (omega (arith, c .before .before .before .before .before .before .before .before .before .pre .0, behind (c .before .before .before .before .before .before .before .before .before .pre .1) d (λ h s r. r)), known-child (c .before .before .before .before .before .before .before .before .before .pre .1) d (λ h s r. r))
 
--- src/lib.rt:77:1
 mark-variables-returns-2 : (t : ℕ) → mark-variables-lts.Need-returns-2 (
   expression-at-reads.Asked,
   expression-at-reads.Learnt,
@@ -278,7 +257,6 @@ mark-variables-returns-2 : (t : ℕ) → mark-variables-lts.Need-returns-2 (
 mark-variables-returns-2 t c =
     λ h s st. rw (names-constant st (decoded (c .before .before .before .before .before .before .expression-at .ensures) (c .before .before .before .before .node .given .1) (c .before .node2 .given .1))) (adds-none _)
 
--- src/lib.rt:77:1
 mark-variables-returns-3 : (t : ℕ) → mark-variables-lts.Need-returns-3 (
   expression-at-reads.Asked,
   expression-at-reads.Learnt,
@@ -290,7 +268,6 @@ mark-variables-returns-3 : (t : ℕ) → mark-variables-lts.Need-returns-3 (
 mark-variables-returns-3 t c =
     λ h s st. let d = decoded-value (c .before .before .before .before .before .before .before .before .before .before .before .expression-at .ensures) (c .before .before .before .before .before .before .before .before .before .node .given .1) (c .before .before .before .before .before .before .node3 .given .1) (c .before .before .before .lvalue .given .1) in rw (names-variable st d) (c .mark .ensures (name-small st (refers st d)))
 
--- src/lib.rt:77:1
 mark-variables-returns-4 : (t : ℕ) → mark-variables-lts.Need-returns-4 (
   expression-at-reads.Asked,
   expression-at-reads.Learnt,
@@ -304,7 +281,6 @@ mark-variables-returns-4 t c =
     let d = decoded-value (c .before .before .before .before .before .before .before .before .before .before .before .before .before .expression-at .ensures) (c .before .before .before .before .before .before .before .before .before .before .before .node .given .1) (c .before .before .before .before .before .before .before .before .node3 .given .1) (c .before .before .before .before .before .lvalue2 .given .1) in
     rw (names-element st d) (adds-first (c .before .before .mark2 .ensures (name-small st (refers st d .0))) (c .mark-variables .ensures h s (standing-child st (refers st d .1))))
 
--- src/lib.rt:77:1
 mark-variables-returns-5 : (t : ℕ) → mark-variables-lts.Need-returns-5 (
   expression-at-reads.Asked,
   expression-at-reads.Learnt,
@@ -318,7 +294,6 @@ mark-variables-returns-5 t c =
     let d = decoded-value (c .before .before .before .before .before .before .before .before .before .before .before .before .before .expression-at .ensures) (c .before .before .before .before .before .before .before .before .before .before .before .node .given .1) (c .before .before .before .before .before .before .before .before .node3 .given .1) (c .before .before .before .before .before .lvalue3 .given .1) in
     rw (names-unsafe st d) (adds-first (c .before .before .mark3 .ensures (name-small st (refers st d .0))) (c .mark-variables2 .ensures h s (standing-child st (refers st d .1))))
 
--- src/lib.rt:77:1
 mark-variables-returns-6 : (t : ℕ) → mark-variables-lts.Need-returns-6 (
   expression-at-reads.Asked,
   expression-at-reads.Learnt,
@@ -330,7 +305,6 @@ mark-variables-returns-6 : (t : ℕ) → mark-variables-lts.Need-returns-6 (
 mark-variables-returns-6 t c =
     λ h s st. rw (names-size st (decoded (c .before .before .before .before .before .before .expression-at .ensures) (c .before .before .before .before .node .given .1) (c .before .node4 .given .1))) (adds-none _)
 
--- src/lib.rt:77:1
 mark-variables-returns-7 : (t : ℕ) → mark-variables-lts.Need-returns-7 (
   expression-at-reads.Asked,
   expression-at-reads.Learnt,
@@ -344,7 +318,6 @@ mark-variables-returns-7 t c =
     let d = decoded (c .before .before .before .before .before .before .before .before .before .before .expression-at .ensures) (c .before .before .before .before .before .before .before .before .node .given .1) (c .before .before .before .before .before .node5 .given .1) in
     rw (names-binary st d) (adds-both (c .before .before .mark-variables3 .ensures h s (standing-child st (refers st d .0))) (c .mark-variables4 .ensures h s (standing-child st (refers st d .1))))
 
--- src/lib.rt:77:1
 mark-variables-returns-8 : (t : ℕ) → mark-variables-lts.Need-returns-8 (
   expression-at-reads.Asked,
   expression-at-reads.Learnt,
@@ -356,7 +329,6 @@ mark-variables-returns-8 : (t : ℕ) → mark-variables-lts.Need-returns-8 (
 mark-variables-returns-8 t c =
     λ h s st. let d = decoded (c .before .before .before .before .before .before .before .before .expression-at .ensures) (c .before .before .before .before .before .before .node .given .1) (c .before .before .before .node6 .given .1) in rw (names-not st d) (c .mark-variables5 .ensures h s (standing-child st (refers st d)))
 
--- src/lib.rt:77:1
 mark-variables-returns-9 : (t : ℕ) → mark-variables-lts.Need-returns-9 (
   expression-at-reads.Asked,
   expression-at-reads.Learnt,

@@ -26,7 +26,6 @@ occurs-at t = and 1 occurs-kinds.ps (is 1 occurs-kinds.ps μ-occurs t) occurs.Pr
 abbrev occurs-below : ℕ → In 1 occurs-kinds.ps
 occurs-below t = and 1 occurs-kinds.ps (falls 1 occurs-kinds.ps _<_ μ-occurs t) occurs.Pre
 
--- src/lib.rt:47:29
 occurs-expression-at-requires : (t : ℕ) → occurs-lts.Need-expression-at-requires (
   expression-at-reads.Asked,
   expression-at-reads.Learnt,
@@ -35,7 +34,6 @@ occurs-expression-at-requires : (t : ℕ) → occurs-lts.Need-expression-at-requ
 ) (occurs-at t) occurs.Post
 occurs-expression-at-requires t c κs = c .before .pre .1 .standing .classed
 
--- src/lib.rt:47:21
 occurs-enum-known-node : (t : ℕ) → occurs-lts.Need-enum-known-node (
   expression-at-reads.Asked,
   expression-at-reads.Learnt,
@@ -44,7 +42,6 @@ occurs-enum-known-node : (t : ℕ) → occurs-lts.Need-enum-known-node (
 ) (occurs-at t) occurs.Post
 occurs-enum-known-node t c = search needs
 
--- src/lib.rt:48:9
 occurs-enum-told : (t : ℕ) → occurs-lts.Need-enum-told (
   expression-at-reads.Asked,
   expression-at-reads.Learnt,
@@ -53,7 +50,6 @@ occurs-enum-told : (t : ℕ) → occurs-lts.Need-enum-told (
 ) (occurs-at t) occurs.Post
 occurs-enum-told t c = search needs
 
--- src/lib.rt:48:9
 occurs-returns : (t : ℕ) → occurs-lts.Need-returns (
   expression-at-reads.Asked,
   expression-at-reads.Learnt,
@@ -62,7 +58,6 @@ occurs-returns : (t : ℕ) → occurs-lts.Need-returns (
 ) (occurs-at t) occurs.Post
 occurs-returns t c = λ h s st. absurd (never-refused st (sym (c .before .before .expression-at .ensures) ∙ c .enum-told .given .1))
 
--- src/lib.rt:51:26
 occurs-enum-known-node-2 : (t : ℕ) → occurs-lts.Need-enum-known-node-2 (
   expression-at-reads.Asked,
   expression-at-reads.Learnt,
@@ -71,7 +66,6 @@ occurs-enum-known-node-2 : (t : ℕ) → occurs-lts.Need-enum-known-node-2 (
 ) (occurs-at t) occurs.Post
 occurs-enum-known-node-2 t c = search needs
 
--- src/lib.rt:52:23
 occurs-enum-known-node-3 : (t : ℕ) → occurs-lts.Need-enum-known-node-3 (
   expression-at-reads.Asked,
   expression-at-reads.Learnt,
@@ -80,7 +74,6 @@ occurs-enum-known-node-3 : (t : ℕ) → occurs-lts.Need-enum-known-node-3 (
 ) (occurs-at t) occurs.Post
 occurs-enum-known-node-3 t c = search needs
 
--- src/lib.rt:53:32
 occurs-enum-known-lvalue : (t : ℕ) → occurs-lts.Need-enum-known-lvalue (
   expression-at-reads.Asked,
   expression-at-reads.Learnt,
@@ -89,7 +82,6 @@ occurs-enum-known-lvalue : (t : ℕ) → occurs-lts.Need-enum-known-lvalue (
 ) (occurs-at t) occurs.Post
 occurs-enum-known-lvalue t c = search needs
 
--- src/lib.rt:54:31
 occurs-enum-known-lvalue-2 : (t : ℕ) → occurs-lts.Need-enum-known-lvalue-2 (
   expression-at-reads.Asked,
   expression-at-reads.Learnt,
@@ -98,7 +90,6 @@ occurs-enum-known-lvalue-2 : (t : ℕ) → occurs-lts.Need-enum-known-lvalue-2 (
 ) (occurs-at t) occurs.Post
 occurs-enum-known-lvalue-2 t c = search needs
 
--- src/lib.rt:54:69
 occurs-occurs-requires : (t : ℕ) → occurs-lts.Need-occurs-requires (
   expression-at-reads.Asked,
   expression-at-reads.Learnt,
@@ -108,7 +99,6 @@ occurs-occurs-requires : (t : ℕ) → occurs-lts.Need-occurs-requires (
 occurs-occurs-requires t c κs =
     let d = decoded-value (c .before .before .before .before .before .before .before .before .before .before .expression-at .ensures) (c .before .before .before .before .before .before .before .before .node .given .1) (c .before .before .before .before .before .node3 .given .1) (c .before .before .lvalue2 .given .1) in (omega (arith, c .before .before .before .before .before .before .before .before .before .before .before .before .pre .0, behind-index (c .before .before .before .before .before .before .before .before .before .before .before .before .pre .1) d (λ h s r. r .1)), known-index (c .before .before .before .before .before .before .before .before .before .before .before .before .pre .1) d (λ h s r. r .1))
 
--- src/lib.rt:55:30
 occurs-enum-known-lvalue-3 : (t : ℕ) → occurs-lts.Need-enum-known-lvalue-3 (
   expression-at-reads.Asked,
   expression-at-reads.Learnt,
@@ -117,7 +107,6 @@ occurs-enum-known-lvalue-3 : (t : ℕ) → occurs-lts.Need-enum-known-lvalue-3 (
 ) (occurs-at t) occurs.Post
 occurs-enum-known-lvalue-3 t c = search needs
 
--- src/lib.rt:55:68
 occurs-occurs-requires-2 : (t : ℕ) → occurs-lts.Need-occurs-requires-2 (
   expression-at-reads.Asked,
   expression-at-reads.Learnt,
@@ -127,7 +116,6 @@ occurs-occurs-requires-2 : (t : ℕ) → occurs-lts.Need-occurs-requires-2 (
 occurs-occurs-requires-2 t c κs =
     let d = decoded-value (c .before .before .before .before .before .before .before .before .before .before .expression-at .ensures) (c .before .before .before .before .before .before .before .before .node .given .1) (c .before .before .before .before .before .node3 .given .1) (c .before .before .lvalue3 .given .1) in (omega (arith, c .before .before .before .before .before .before .before .before .before .before .before .before .pre .0, behind-index (c .before .before .before .before .before .before .before .before .before .before .before .before .pre .1) d (λ h s r. r .1)), known-index (c .before .before .before .before .before .before .before .before .before .before .before .before .pre .1) d (λ h s r. r .1))
 
--- src/lib.rt:57:22
 occurs-enum-known-node-4 : (t : ℕ) → occurs-lts.Need-enum-known-node-4 (
   expression-at-reads.Asked,
   expression-at-reads.Learnt,
@@ -136,7 +124,6 @@ occurs-enum-known-node-4 : (t : ℕ) → occurs-lts.Need-enum-known-node-4 (
 ) (occurs-at t) occurs.Post
 occurs-enum-known-node-4 t c = search needs
 
--- src/lib.rt:58:24
 occurs-enum-known-node-5 : (t : ℕ) → occurs-lts.Need-enum-known-node-5 (
   expression-at-reads.Asked,
   expression-at-reads.Learnt,
@@ -145,7 +132,6 @@ occurs-enum-known-node-5 : (t : ℕ) → occurs-lts.Need-enum-known-node-5 (
 ) (occurs-at t) occurs.Post
 occurs-enum-known-node-5 t c = search needs
 
--- src/lib.rt:58:51
 occurs-occurs-requires-3 : (t : ℕ) → occurs-lts.Need-occurs-requires-3 (
   expression-at-reads.Asked,
   expression-at-reads.Learnt,
@@ -155,7 +141,6 @@ occurs-occurs-requires-3 : (t : ℕ) → occurs-lts.Need-occurs-requires-3 (
 occurs-occurs-requires-3 t c κs =
     let d = decoded (c .before .before .before .before .before .before .expression-at .ensures) (c .before .before .before .before .node .given .1) (c .before .node5 .given .1) in (omega (arith, c .before .before .before .before .before .before .before .before .pre .0, behind (c .before .before .before .before .before .before .before .before .pre .1) d (λ h s r. r .0)), known-child (c .before .before .before .before .before .before .before .before .pre .1) d (λ h s r. r .0))
 
--- src/lib.rt:58:77
 occurs-occurs-requires-4 : (t : ℕ) → occurs-lts.Need-occurs-requires-4 (
   expression-at-reads.Asked,
   expression-at-reads.Learnt,
@@ -165,7 +150,6 @@ occurs-occurs-requires-4 : (t : ℕ) → occurs-lts.Need-occurs-requires-4 (
 occurs-occurs-requires-4 t c κs =
     let d = decoded (c .before .before .before .before .before .before .before .before .expression-at .ensures) (c .before .before .before .before .before .before .node .given .1) (c .before .before .before .node5 .given .1) in (omega (arith, c .before .before .before .before .before .before .before .before .before .before .pre .0, behind (c .before .before .before .before .before .before .before .before .before .before .pre .1) d (λ h s r. r .1)), known-child (c .before .before .before .before .before .before .before .before .before .before .pre .1) d (λ h s r. r .1))
 
--- src/lib.rt:59:21
 occurs-enum-known-node-6 : (t : ℕ) → occurs-lts.Need-enum-known-node-6 (
   expression-at-reads.Asked,
   expression-at-reads.Learnt,
@@ -174,7 +158,6 @@ occurs-enum-known-node-6 : (t : ℕ) → occurs-lts.Need-enum-known-node-6 (
 ) (occurs-at t) occurs.Post
 occurs-enum-known-node-6 t c = search needs
 
--- src/lib.rt:59:34
 occurs-occurs-requires-5 : (t : ℕ) → occurs-lts.Need-occurs-requires-5 (
   expression-at-reads.Asked,
   expression-at-reads.Learnt,
@@ -184,7 +167,6 @@ occurs-occurs-requires-5 : (t : ℕ) → occurs-lts.Need-occurs-requires-5 (
 occurs-occurs-requires-5 t c κs =
     let d = decoded (c .before .before .before .before .before .before .expression-at .ensures) (c .before .before .before .before .node .given .1) (c .before .node6 .given .1) in (omega (arith, c .before .before .before .before .before .before .before .before .pre .0, behind (c .before .before .before .before .before .before .before .before .pre .1) d (λ h s r. r)), known-child (c .before .before .before .before .before .before .before .before .pre .1) d (λ h s r. r))
 
--- src/lib.rt:43:1
 occurs-returns-2 : (t : ℕ) → occurs-lts.Need-returns-2 (
   expression-at-reads.Asked,
   expression-at-reads.Learnt,
@@ -195,7 +177,6 @@ unfolding member
 occurs-returns-2 t c =
     λ h s st. rw (names-constant st (decoded (c .before .before .before .before .before .before .expression-at .ensures) (c .before .before .before .before .node .given .1) (c .before .node2 .given .1)))
 
--- src/lib.rt:43:1
 occurs-returns-3 : (t : ℕ) → occurs-lts.Need-returns-3 (
   expression-at-reads.Asked,
   expression-at-reads.Learnt,
@@ -205,7 +186,6 @@ occurs-returns-3 : (t : ℕ) → occurs-lts.Need-returns-3 (
 occurs-returns-3 t c =
     λ h s st. rw (names-variable st (decoded-value (c .before .before .before .before .before .before .before .before .before .expression-at .ensures) (c .before .before .before .before .before .before .before .node .given .1) (c .before .before .before .before .node3 .given .1) (c .before .lvalue .given .1))) (member-one _ _)
 
--- src/lib.rt:43:1
 occurs-returns-4 : (t : ℕ) → occurs-lts.Need-returns-4 (
   expression-at-reads.Asked,
   expression-at-reads.Learnt,
@@ -215,7 +195,6 @@ occurs-returns-4 : (t : ℕ) → occurs-lts.Need-returns-4 (
 occurs-returns-4 t c =
     λ h s st. rw (names-element st (decoded-value (c .before .before .before .before .before .before .before .before .before .before .expression-at .ensures) (c .before .before .before .before .before .before .before .before .node .given .1) (c .before .before .before .before .before .node3 .given .1) (c .before .before .lvalue2 .given .1))) (member-here _ _ (c .if1 .taken))
 
--- src/lib.rt:43:1
 occurs-returns-5 : (t : ℕ) → occurs-lts.Need-returns-5 (
   expression-at-reads.Asked,
   expression-at-reads.Learnt,
@@ -225,7 +204,6 @@ occurs-returns-5 : (t : ℕ) → occurs-lts.Need-returns-5 (
 occurs-returns-5 t c =
     λ h s st. let d = decoded-value (c .before .before .before .before .before .before .before .before .before .before .before .expression-at .ensures) (c .before .before .before .before .before .before .before .before .before .node .given .1) (c .before .before .before .before .before .before .node3 .given .1) (c .before .before .before .lvalue2 .given .1) in rw (names-element st d) (member-later _ _ (c .before .if1 .left) (c .occurs .ensures h s (standing-child st (refers st d .1))))
 
--- src/lib.rt:43:1
 occurs-returns-6 : (t : ℕ) → occurs-lts.Need-returns-6 (
   expression-at-reads.Asked,
   expression-at-reads.Learnt,
@@ -235,7 +213,6 @@ occurs-returns-6 : (t : ℕ) → occurs-lts.Need-returns-6 (
 occurs-returns-6 t c =
     λ h s st. rw (names-unsafe st (decoded-value (c .before .before .before .before .before .before .before .before .before .before .expression-at .ensures) (c .before .before .before .before .before .before .before .before .node .given .1) (c .before .before .before .before .before .node3 .given .1) (c .before .before .lvalue3 .given .1))) (member-here _ _ (c .if2 .taken))
 
--- src/lib.rt:43:1
 occurs-returns-7 : (t : ℕ) → occurs-lts.Need-returns-7 (
   expression-at-reads.Asked,
   expression-at-reads.Learnt,
@@ -245,7 +222,6 @@ occurs-returns-7 : (t : ℕ) → occurs-lts.Need-returns-7 (
 occurs-returns-7 t c =
     λ h s st. let d = decoded-value (c .before .before .before .before .before .before .before .before .before .before .before .expression-at .ensures) (c .before .before .before .before .before .before .before .before .before .node .given .1) (c .before .before .before .before .before .before .node3 .given .1) (c .before .before .before .lvalue3 .given .1) in rw (names-unsafe st d) (member-later _ _ (c .before .if2 .left) (c .occurs2 .ensures h s (standing-child st (refers st d .1))))
 
--- src/lib.rt:43:1
 occurs-returns-8 : (t : ℕ) → occurs-lts.Need-returns-8 (
   expression-at-reads.Asked,
   expression-at-reads.Learnt,
@@ -256,7 +232,6 @@ unfolding member
 occurs-returns-8 t c =
     λ h s st. rw (names-size st (decoded (c .before .before .before .before .before .before .expression-at .ensures) (c .before .before .before .before .node .given .1) (c .before .node4 .given .1)))
 
--- src/lib.rt:43:1
 occurs-returns-9 : (t : ℕ) → occurs-lts.Need-returns-9 (
   expression-at-reads.Asked,
   expression-at-reads.Learnt,
@@ -266,7 +241,6 @@ occurs-returns-9 : (t : ℕ) → occurs-lts.Need-returns-9 (
 occurs-returns-9 t c =
     λ h s st. let d = decoded (c .before .before .before .before .before .before .before .before .expression-at .ensures) (c .before .before .before .before .before .before .node .given .1) (c .before .before .before .node5 .given .1) in rw (names-binary st d) (member-left _ _ _ (c .before .occurs3 .ensures h s (standing-child st (refers st d .0))) (c .if3 .taken))
 
--- src/lib.rt:43:1
 occurs-returns-10 : (t : ℕ) → occurs-lts.Need-returns-10 (
   expression-at-reads.Asked,
   expression-at-reads.Learnt,
@@ -276,7 +250,6 @@ occurs-returns-10 : (t : ℕ) → occurs-lts.Need-returns-10 (
 occurs-returns-10 t c =
     λ h s st. let d = decoded (c .before .before .before .before .before .before .before .before .before .expression-at .ensures) (c .before .before .before .before .before .before .before .node .given .1) (c .before .before .before .before .node5 .given .1) in rw (names-binary st d) (member-right _ _ _ (c .before .before .occurs3 .ensures h s (standing-child st (refers st d .0))) (c .before .if3 .left) (c .occurs4 .ensures h s (standing-child st (refers st d .1))))
 
--- src/lib.rt:43:1
 occurs-returns-11 : (t : ℕ) → occurs-lts.Need-returns-11 (
   expression-at-reads.Asked,
   expression-at-reads.Learnt,
@@ -286,7 +259,6 @@ occurs-returns-11 : (t : ℕ) → occurs-lts.Need-returns-11 (
 occurs-returns-11 t c =
     λ h s st. let d = decoded (c .before .before .before .before .before .before .before .expression-at .ensures) (c .before .before .before .before .before .node .given .1) (c .before .before .node6 .given .1) in rw (names-not st d) (c .occurs5 .ensures h s (standing-child st (refers st d)))
 
--- src/lib.rt:43:1
 occurs-returns-12 : (t : ℕ) → occurs-lts.Need-returns-12 (
   expression-at-reads.Asked,
   expression-at-reads.Learnt,

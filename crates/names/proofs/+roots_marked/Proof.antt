@@ -1,5 +1,5 @@
-use borrow.Author.Needs.{needs}
 -- Along the chain to the first root that is marked.
+use borrow.Author.Needs.{needs}
 use mathlib.Core.Path.{_≡_, refl, sym, _∙_}
 use Prim.Native.Nat.{_-_}
 use native.Mathlib.Omega.{arith}
@@ -33,7 +33,6 @@ roots-marked-below t =
     (falls 2 roots-marked-kinds.ps _<_ μ-roots-marked t)
     roots-marked.Pre
 
--- src/lib.rt:150:9
 roots-marked-returns : (t : ℕ) → roots-marked-lts.Need-returns (
   lvalue-at-reads.Asked,
   lvalue-at-reads.Learnt,
@@ -48,7 +47,6 @@ roots-marked-returns : (t : ℕ) → roots-marked-lts.Need-returns (
 ) (roots-marked-at t) roots-marked.Post
 roots-marked-returns t c = λ h s k. rw (no-roots k (c .if1 .taken)) touches-none
 
--- src/lib.rt:152:28
 roots-marked-lvalue-at-requires : (t : ℕ) → roots-marked-lts.Need-lvalue-at-requires (
   lvalue-at-reads.Asked,
   lvalue-at-reads.Learnt,
@@ -63,7 +61,6 @@ roots-marked-lvalue-at-requires : (t : ℕ) → roots-marked-lts.Need-lvalue-at-
 ) (roots-marked-at t) roots-marked.Post
 roots-marked-lvalue-at-requires t c κs = search needs
 
--- src/lib.rt:152:23
 roots-marked-enum-known-l : (t : ℕ) → roots-marked-lts.Need-enum-known-l (
   lvalue-at-reads.Asked,
   lvalue-at-reads.Learnt,
@@ -78,7 +75,6 @@ roots-marked-enum-known-l : (t : ℕ) → roots-marked-lts.Need-enum-known-l (
 ) (roots-marked-at t) roots-marked.Post
 roots-marked-enum-known-l t c = search needs
 
--- src/lib.rt:153:9
 roots-marked-enum-told : (t : ℕ) → roots-marked-lts.Need-enum-told (
   lvalue-at-reads.Asked,
   lvalue-at-reads.Learnt,
@@ -93,7 +89,6 @@ roots-marked-enum-told : (t : ℕ) → roots-marked-lts.Need-enum-told (
 ) (roots-marked-at t) roots-marked.Post
 roots-marked-enum-told t c = search needs
 
--- src/lib.rt:153:9
 roots-marked-returns-2 : (t : ℕ) → roots-marked-lts.Need-returns-2 (
   lvalue-at-reads.Asked,
   lvalue-at-reads.Learnt,
@@ -109,7 +104,6 @@ roots-marked-returns-2 : (t : ℕ) → roots-marked-lts.Need-returns-2 (
 roots-marked-returns-2 t c =
     λ h s k. absurd (no-other (chain-standing k (c .before .before .before .if1 .left)) (sym (c .before .before .lvalue-at .ensures) ∙ c .enum-told .given .1))
 
--- src/lib.rt:155:25
 roots-marked-root-of-requires : (t : ℕ) → roots-marked-lts.Need-root-of-requires (
   lvalue-at-reads.Asked,
   lvalue-at-reads.Learnt,
@@ -124,7 +118,6 @@ roots-marked-root-of-requires : (t : ℕ) → roots-marked-lts.Need-root-of-requ
 ) (roots-marked-at t) roots-marked.Post
 roots-marked-root-of-requires t c κs = search needs
 
--- src/lib.rt:155:8
 roots-marked-is-marked-requires : (t : ℕ) → roots-marked-lts.Need-is-marked-requires (
   lvalue-at-reads.Asked,
   lvalue-at-reads.Learnt,
@@ -139,7 +132,6 @@ roots-marked-is-marked-requires : (t : ℕ) → roots-marked-lts.Need-is-marked-
 ) (roots-marked-at t) roots-marked.Post
 roots-marked-is-marked-requires t c κs = search needs
 
--- src/lib.rt:156:9
 roots-marked-returns-3 : (t : ℕ) → roots-marked-lts.Need-returns-3 (
   lvalue-at-reads.Asked,
   lvalue-at-reads.Learnt,
@@ -158,7 +150,6 @@ roots-marked-returns-3 t c =
     let d = sym (c .before .before .before .before .before .before .lvalue-at .ensures) ∙ c .before .before .before .before .l .given .1 in
     rw (first-root st d (c .before .before .root-of .ensures) refl) (touches-first (argument-small st d (c .before .before .root-of .ensures)) (c .before .is-marked .ensures) (c .if2 .taken))
 
--- src/lib.rt:158:25
 roots-marked-next-at-requires : (t : ℕ) → roots-marked-lts.Need-next-at-requires (
   lvalue-at-reads.Asked,
   lvalue-at-reads.Learnt,
@@ -173,7 +164,6 @@ roots-marked-next-at-requires : (t : ℕ) → roots-marked-lts.Need-next-at-requ
 ) (roots-marked-at t) roots-marked.Post
 roots-marked-next-at-requires t c κs = search needs
 
--- src/lib.rt:158:5
 roots-marked-roots-marked-requires : (t : ℕ) → roots-marked-lts.Need-roots-marked-requires (
   lvalue-at-reads.Asked,
   lvalue-at-reads.Learnt,
@@ -189,7 +179,6 @@ roots-marked-roots-marked-requires : (t : ℕ) → roots-marked-lts.Need-roots-m
 roots-marked-roots-marked-requires t c κs =
     (omega (arith, c .before .before .before .before .before .before .before .before .before .before .pre .0, argument-ahead (c .before .before .before .before .before .before .before .before .before .before .pre .1) (c .before .before .before .before .before .before .before .before .if1 .left) (c .next-at .ensures)), known-arguments (c .before .before .before .before .before .before .before .before .before .before .pre .1) (c .before .before .before .before .before .before .before .before .if1 .left) (c .next-at .ensures))
 
--- src/lib.rt:145:1
 roots-marked-returns-4 : (t : ℕ) → roots-marked-lts.Need-returns-4 (
   lvalue-at-reads.Asked,
   lvalue-at-reads.Learnt,

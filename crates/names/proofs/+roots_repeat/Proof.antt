@@ -1,5 +1,5 @@
-use borrow.Author.Needs.{needs}
 -- Along the chain to the first root that is marked; each root is marked as it is passed.
+use borrow.Author.Needs.{needs}
 use mathlib.Core.Path.{_≡_, refl, sym, _∙_}
 use Prim.Native.Nat.{_-_}
 use native.Mathlib.Omega.{arith}
@@ -34,7 +34,6 @@ roots-repeat-below t =
     (falls 2 roots-repeat-kinds.ps _<_ μ-roots-repeat t)
     roots-repeat.Pre
 
--- src/lib.rt:167:9
 roots-repeat-returns : (t : ℕ) → roots-repeat-lts.Need-returns (
   lvalue-at-reads.Asked,
   lvalue-at-reads.Learnt,
@@ -51,7 +50,6 @@ roots-repeat-returns : (t : ℕ) → roots-repeat-lts.Need-returns (
 ) (roots-repeat-at t) roots-repeat.Post
 roots-repeat-returns t c = λ h s k. rw (no-roots k (c .if1 .taken)) repeats-none
 
--- src/lib.rt:169:28
 roots-repeat-lvalue-at-requires : (t : ℕ) → roots-repeat-lts.Need-lvalue-at-requires (
   lvalue-at-reads.Asked,
   lvalue-at-reads.Learnt,
@@ -68,7 +66,6 @@ roots-repeat-lvalue-at-requires : (t : ℕ) → roots-repeat-lts.Need-lvalue-at-
 ) (roots-repeat-at t) roots-repeat.Post
 roots-repeat-lvalue-at-requires t c κs = search needs
 
--- src/lib.rt:169:23
 roots-repeat-enum-known-l : (t : ℕ) → roots-repeat-lts.Need-enum-known-l (
   lvalue-at-reads.Asked,
   lvalue-at-reads.Learnt,
@@ -85,7 +82,6 @@ roots-repeat-enum-known-l : (t : ℕ) → roots-repeat-lts.Need-enum-known-l (
 ) (roots-repeat-at t) roots-repeat.Post
 roots-repeat-enum-known-l t c = search needs
 
--- src/lib.rt:170:9
 roots-repeat-enum-told : (t : ℕ) → roots-repeat-lts.Need-enum-told (
   lvalue-at-reads.Asked,
   lvalue-at-reads.Learnt,
@@ -102,7 +98,6 @@ roots-repeat-enum-told : (t : ℕ) → roots-repeat-lts.Need-enum-told (
 ) (roots-repeat-at t) roots-repeat.Post
 roots-repeat-enum-told t c = search needs
 
--- src/lib.rt:170:9
 roots-repeat-returns-2 : (t : ℕ) → roots-repeat-lts.Need-returns-2 (
   lvalue-at-reads.Asked,
   lvalue-at-reads.Learnt,
@@ -120,7 +115,6 @@ roots-repeat-returns-2 : (t : ℕ) → roots-repeat-lts.Need-returns-2 (
 roots-repeat-returns-2 t c =
     λ h s k. absurd (no-other (chain-standing k (c .before .before .before .if1 .left)) (sym (c .before .before .lvalue-at .ensures) ∙ c .enum-told .given .1))
 
--- src/lib.rt:172:9
 roots-repeat-root-of-requires : (t : ℕ) → roots-repeat-lts.Need-root-of-requires (
   lvalue-at-reads.Asked,
   lvalue-at-reads.Learnt,
@@ -137,7 +131,6 @@ roots-repeat-root-of-requires : (t : ℕ) → roots-repeat-lts.Need-root-of-requ
 ) (roots-repeat-at t) roots-repeat.Post
 roots-repeat-root-of-requires t c κs = search needs
 
--- src/lib.rt:173:8
 roots-repeat-is-marked-requires : (t : ℕ) → roots-repeat-lts.Need-is-marked-requires (
   lvalue-at-reads.Asked,
   lvalue-at-reads.Learnt,
@@ -154,7 +147,6 @@ roots-repeat-is-marked-requires : (t : ℕ) → roots-repeat-lts.Need-is-marked-
 ) (roots-repeat-at t) roots-repeat.Post
 roots-repeat-is-marked-requires t c κs = search needs
 
--- src/lib.rt:174:9
 roots-repeat-returns-3 : (t : ℕ) → roots-repeat-lts.Need-returns-3 (
   lvalue-at-reads.Asked,
   lvalue-at-reads.Learnt,
@@ -175,7 +167,6 @@ roots-repeat-returns-3 t c =
     let d = sym (c .before .before .before .before .before .before .before .lvalue-at .ensures) ∙ c .before .before .before .before .before .l .given .1 in
     rw (first-root st d (c .before .before .before .root-of .ensures) refl) (repeats-here (argument-small st d (c .before .before .before .root-of .ensures)) (c .before .is-marked .ensures) (c .if2 .taken))
 
--- src/lib.rt:176:5
 roots-repeat-mark-requires : (t : ℕ) → roots-repeat-lts.Need-mark-requires (
   lvalue-at-reads.Asked,
   lvalue-at-reads.Learnt,
@@ -192,7 +183,6 @@ roots-repeat-mark-requires : (t : ℕ) → roots-repeat-lts.Need-mark-requires (
 ) (roots-repeat-at t) roots-repeat.Post
 roots-repeat-mark-requires t c κs = search needs
 
--- src/lib.rt:177:25
 roots-repeat-next-at-requires : (t : ℕ) → roots-repeat-lts.Need-next-at-requires (
   lvalue-at-reads.Asked,
   lvalue-at-reads.Learnt,
@@ -209,7 +199,6 @@ roots-repeat-next-at-requires : (t : ℕ) → roots-repeat-lts.Need-next-at-requ
 ) (roots-repeat-at t) roots-repeat.Post
 roots-repeat-next-at-requires t c κs = search needs
 
--- src/lib.rt:177:5
 roots-repeat-roots-repeat-requires : (t : ℕ) → roots-repeat-lts.Need-roots-repeat-requires (
   lvalue-at-reads.Asked,
   lvalue-at-reads.Learnt,
@@ -227,7 +216,6 @@ roots-repeat-roots-repeat-requires : (t : ℕ) → roots-repeat-lts.Need-roots-r
 roots-repeat-roots-repeat-requires t c κs =
     (omega (arith, c .before .before .before .before .before .before .before .before .before .before .before .before .before .before .pre .0, argument-ahead (c .before .before .before .before .before .before .before .before .before .before .before .before .before .before .pre .1) (c .before .before .before .before .before .before .before .before .before .before .before .before .if1 .left) (c .before .next-at .ensures)), known-arguments (c .before .before .before .before .before .before .before .before .before .before .before .before .before .before .pre .1) (c .before .before .before .before .before .before .before .before .before .before .before .before .if1 .left) (c .before .next-at .ensures))
 
--- src/lib.rt:162:1
 roots-repeat-returns-4 : (t : ℕ) → roots-repeat-lts.Need-returns-4 (
   lvalue-at-reads.Asked,
   lvalue-at-reads.Learnt,

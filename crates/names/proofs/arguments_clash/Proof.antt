@@ -10,31 +10,24 @@ use Rattle.names.proofs.mark_indices.Reads as mark-indices-reads
 use Rattle.names.proofs.roots_marked.Reads as roots-marked-reads
 use Rattle.names.proofs.roots_repeat.Reads as roots-repeat-reads
 
--- src/lib.rt:200:20
 fresh-requires : tie.Need-fresh-requires
 fresh-requires c κs = search needs
 
--- src/lib.rt:201:8
 roots-repeat-requires : tie.Need-roots-repeat-requires
 roots-repeat-requires c κs = search needs
 
--- src/lib.rt:202:9
 returns : tie.Need-returns
 returns c = λ h s k. clash-twice _ (c .before .before .before .fresh .ensures) (c .before .roots-repeat .ensures h s k) (c .if1 .taken)
 
--- src/lib.rt:204:20
 fresh-requires-2 : tie.Need-fresh-requires-2
 fresh-requires-2 c κs = search needs
 
--- src/lib.rt:205:5
 mark-indices-requires : tie.Need-mark-indices-requires
 mark-indices-requires c κs = search needs
 
--- src/lib.rt:206:5
 roots-marked-requires : tie.Need-roots-marked-requires
 roots-marked-requires c κs = search needs
 
--- src/lib.rt:196:1
 returns-2 : tie.Need-returns-2
 returns-2 c =
     λ h s k. clash-index _ (c .before .before .before .before .before .before .before .before .fresh .ensures) (c .before .before .before .before .before .before .roots-repeat .ensures h s k) (c .before .before .before .before .before .if1 .left) (c .before .before .before .before .fresh2 .ensures) (c .before .before .mark-indices .ensures h s k) (c .roots-marked .ensures h s k)

@@ -5,7 +5,6 @@ use Rattle.names.proofs.fresh.Tie as tie
 use Rattle.names.proofs.fresh.Reads as reads
 use Rattle.names.proofs.fresh.Lts as lts
 
--- src/lib.rt:14:1
 returns : tie.Need-returns
 returns c = no-marks
 

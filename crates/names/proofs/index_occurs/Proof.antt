@@ -8,38 +8,30 @@ use Rattle.names.proofs.index_occurs.Reads as reads
 use Rattle.names.proofs.index_occurs.Lts as lts
 use Rattle.names.proofs.occurs.Reads as occurs-reads
 
--- src/lib.rt:126:28
 enum-known-l : tie.Need-enum-known-l
 enum-known-l c = search needs
 
--- src/lib.rt:127:27
 enum-known-l-2 : tie.Need-enum-known-l-2
 enum-known-l-2 c = search needs
 
--- src/lib.rt:127:51
 occurs-requires : tie.Need-occurs-requires
 occurs-requires c κs = known-element (rw (c .before .l2 .given .1) at (c .before .before .before .before .pre))
 
--- src/lib.rt:128:26
 enum-known-l-3 : tie.Need-enum-known-l-3
 enum-known-l-3 c = search needs
 
--- src/lib.rt:128:50
 occurs-requires-2 : tie.Need-occurs-requires-2
 occurs-requires-2 c κs = known-unsafe (rw (c .before .l3 .given .1) at (c .before .before .before .before .pre))
 
--- src/lib.rt:121:1
 returns : tie.Need-returns
 unfolding index member
 returns c = λ h s g. rw (c .before .l .given .1)
 
--- src/lib.rt:121:1
 returns-2 : tie.Need-returns-2
 unfolding index
 returns-2 c =
     λ h s g. let k = rw (c .before .before .l2 .given .1) at g in rw (c .before .before .l2 .given .1) (c .occurs .ensures h s (standing-index k (k .names .1)))
 
--- src/lib.rt:121:1
 returns-3 : tie.Need-returns-3
 unfolding index
 returns-3 c =

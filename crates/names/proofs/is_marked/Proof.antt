@@ -7,11 +7,9 @@ use Rattle.names.proofs.is_marked.Tie as tie
 use Rattle.names.proofs.is_marked.Reads as reads
 use Rattle.names.proofs.is_marked.Lts as lts
 
--- src/lib.rt:26:9
 element-copy-out-result : tie.Need-element-copy-out-result
 element-copy-out-result c = search needs
 
--- src/lib.rt:21:1
 returns : tie.Need-returns
 unfolding marked
 returns c = λ Γ m l. m .at _ l

@@ -7,15 +7,12 @@ use Rattle.names.proofs.mark.Tie as tie
 use Rattle.names.proofs.mark.Reads as reads
 use Rattle.names.proofs.mark.Lts as lts
 
--- src/lib.rt:38:9
 element-write-marks : tie.Need-element-write-marks
 element-write-marks c = search needs
 
--- src/lib.rt:33:1
 returns : tie.Need-returns
 returns c = λ l. adds-one _ _ l
 
--- src/lib.rt:33:1
 returns-2 : tie.Need-returns-2
 returns-2 c = λ l. absurd (omega arith)
 

@@ -9,38 +9,30 @@ use Rattle.names.proofs.mark_index.Reads as reads
 use Rattle.names.proofs.mark_index.Lts as lts
 use Rattle.names.proofs.mark_variables.Reads as mark-variables-reads
 
--- src/lib.rt:138:28
 enum-known-l : tie.Need-enum-known-l
 enum-known-l c = search needs
 
--- src/lib.rt:139:27
 enum-known-l-2 : tie.Need-enum-known-l-2
 enum-known-l-2 c = search needs
 
--- src/lib.rt:139:51
 mark-variables-requires : tie.Need-mark-variables-requires
 mark-variables-requires c κs = known-element (rw (c .before .before .l2 .given .1) at (c .before .before .before .before .before .pre))
 
--- src/lib.rt:140:26
 enum-known-l-3 : tie.Need-enum-known-l-3
 enum-known-l-3 c = search needs
 
--- src/lib.rt:140:50
 mark-variables-requires-2 : tie.Need-mark-variables-requires-2
 mark-variables-requires-2 c κs = known-unsafe (rw (c .before .before .l3 .given .1) at (c .before .before .before .before .before .pre))
 
--- src/lib.rt:133:1
 returns : tie.Need-returns
 unfolding index
 returns c = λ h s g. rw (c .before .l .given .1) (adds-none _)
 
--- src/lib.rt:133:1
 returns-2 : tie.Need-returns-2
 unfolding index
 returns-2 c =
     λ h s g. let k = rw (c .before .before .before .l2 .given .1) at g in rw (c .before .before .before .l2 .given .1) (c .mark-variables .ensures h s (standing-index k (k .names .1)))
 
--- src/lib.rt:133:1
 returns-3 : tie.Need-returns-3
 unfolding index
 returns-3 c =

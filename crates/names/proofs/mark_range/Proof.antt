@@ -1,5 +1,5 @@
-use Rattle.names.specs.Marks.{range-none, range-more, range-all}
 -- From the last name down, so that each marked name stands in front of those marked before.
+use Rattle.names.specs.Marks.{range-none, range-more, range-all}
 use borrow.Author.Needs.{needs}
 use mathlib.Core.Path.{_≡_, refl, sym, ap, _∙_}
 use Prim.Native.Nat.{_+_, _-_, _≤_}
@@ -18,32 +18,25 @@ Inv-loop marks₀ x count left₀ marks left = (left ≤ count) × Adds marks₀
 abbrev μ-loop : tie.MeasureT-loop
 μ-loop marks₀ x count left₀ marks left = left
 
--- src/lib.rt:48:5
 loop-holds : tie.Need-loop-holds Inv-loop μ-loop
 loop-holds c = (search needs, range-none _ _ _)
 
--- src/lib.rt:49:9
 sub-left : tie.Need-sub-left Inv-loop μ-loop
 sub-left c = search needs
 
--- src/lib.rt:50:21
 add-mark : tie.Need-add-mark Inv-loop μ-loop
 add-mark c = search needs
 
--- src/lib.rt:50:9
 mark-requires : tie.Need-mark-requires Inv-loop μ-loop
 mark-requires c κs = search needs
 
--- src/lib.rt:48:5
 loop-less : tie.Need-loop-less Inv-loop μ-loop
 loop-less c = search needs
 
--- src/lib.rt:48:5
 loop-again : tie.Need-loop-again Inv-loop μ-loop
 loop-again c =
     (omega arith, range-more _ _ _ (c .before .before .loop-test .taken) (c .before .before .before .loop .inv .0) (c .before .before .before .loop .inv .1) (c .mark .ensures (omega arith)))
 
--- src/lib.rt:43:1
 returns : tie.Need-returns Inv-loop μ-loop
 returns c = range-all _ _ _ _ _ (c .loop-test .left) (c .before .loop .inv .1)
 

@@ -1,5 +1,5 @@
-use borrow.Author.Needs.{needs}
 -- Along the chain to the first refusal.
+use borrow.Author.Needs.{needs}
 use mathlib.Core.Path.{_≡_, refl, sym, ap, _∙_}
 use Prim.Native.Nat.{_-_}
 use native.Mathlib.Omega.{arith}
@@ -27,7 +27,6 @@ abbrev arguments-below : ℕ → In 3 arguments-kinds.ps
 arguments-below t =
     and 3 arguments-kinds.ps (falls 3 arguments-kinds.ps _<_ μ-arguments t) arguments.Pre
 
--- src/lib.rt:193:9
 arguments-returns : (t : ℕ) → arguments-lts.Need-returns (
   lvalue-at-reads.Asked,
   lvalue-at-reads.Learnt,
@@ -40,7 +39,6 @@ arguments-returns : (t : ℕ) → arguments-lts.Need-returns (
 ) (arguments-at t) arguments.Post
 arguments-returns t c = λ h s k Γ sc. rw (no-arguments k (c .if1 .taken)) (arguments-none s Γ)
 
--- src/lib.rt:195:28
 arguments-lvalue-at-requires : (t : ℕ) → arguments-lts.Need-lvalue-at-requires (
   lvalue-at-reads.Asked,
   lvalue-at-reads.Learnt,
@@ -53,7 +51,6 @@ arguments-lvalue-at-requires : (t : ℕ) → arguments-lts.Need-lvalue-at-requir
 ) (arguments-at t) arguments.Post
 arguments-lvalue-at-requires t c κs = search needs
 
--- src/lib.rt:195:23
 arguments-enum-known-l : (t : ℕ) → arguments-lts.Need-enum-known-l (
   lvalue-at-reads.Asked,
   lvalue-at-reads.Learnt,
@@ -66,7 +63,6 @@ arguments-enum-known-l : (t : ℕ) → arguments-lts.Need-enum-known-l (
 ) (arguments-at t) arguments.Post
 arguments-enum-known-l t c = search needs
 
--- src/lib.rt:196:9
 arguments-enum-told : (t : ℕ) → arguments-lts.Need-enum-told (
   lvalue-at-reads.Asked,
   lvalue-at-reads.Learnt,
@@ -79,7 +75,6 @@ arguments-enum-told : (t : ℕ) → arguments-lts.Need-enum-told (
 ) (arguments-at t) arguments.Post
 arguments-enum-told t c = search needs
 
--- src/lib.rt:196:9
 arguments-returns-2 : (t : ℕ) → arguments-lts.Need-returns-2 (
   lvalue-at-reads.Asked,
   lvalue-at-reads.Learnt,
@@ -93,7 +88,6 @@ arguments-returns-2 : (t : ℕ) → arguments-lts.Need-returns-2 (
 arguments-returns-2 t c =
     λ h s k. absurd (no-other (chain-standing k (c .before .before .before .if1 .left)) (sym (c .before .before .lvalue-at .ensures) ∙ c .enum-told .given .1))
 
--- src/lib.rt:198:9
 arguments-place-requires : (t : ℕ) → arguments-lts.Need-place-requires (
   lvalue-at-reads.Asked,
   lvalue-at-reads.Learnt,
@@ -107,7 +101,6 @@ arguments-place-requires : (t : ℕ) → arguments-lts.Need-place-requires (
 arguments-place-requires t c κs =
     known-argument (c .before .before .before .before .before .before .before .pre .1) (c .before .before .before .before .if1 .left) (sym (c .before .before .before .lvalue-at .ensures) ∙ c .before .l .given .1)
 
--- src/lib.rt:200:9
 arguments-returns-3 : (t : ℕ) → arguments-lts.Need-returns-3 (
   lvalue-at-reads.Asked,
   lvalue-at-reads.Learnt,
@@ -124,7 +117,6 @@ arguments-returns-3 t c =
     let d = sym (c .before .before .before .before .before .before .lvalue-at .ensures) ∙ c .before .before .before .before .l .given .1 in
     rw (first-argument st d refl) (argument-stops s Γ _ _ (c .before .before .place .ensures h s (argument-naming st d) Γ sc) (c .if2 .taken))
 
--- src/lib.rt:202:40
 arguments-next-at-requires : (t : ℕ) → arguments-lts.Need-next-at-requires (
   lvalue-at-reads.Asked,
   lvalue-at-reads.Learnt,
@@ -137,7 +129,6 @@ arguments-next-at-requires : (t : ℕ) → arguments-lts.Need-next-at-requires (
 ) (arguments-at t) arguments.Post
 arguments-next-at-requires t c κs = search needs
 
--- src/lib.rt:202:5
 arguments-arguments-requires : (t : ℕ) → arguments-lts.Need-arguments-requires (
   lvalue-at-reads.Asked,
   lvalue-at-reads.Learnt,
@@ -151,7 +142,6 @@ arguments-arguments-requires : (t : ℕ) → arguments-lts.Need-arguments-requir
 arguments-arguments-requires t c κs =
     (omega (arith, c .before .before .before .before .before .before .before .before .before .before .before .pre .0, argument-ahead (c .before .before .before .before .before .before .before .before .before .before .before .pre .1) (c .before .before .before .before .before .before .before .before .if1 .left) (c .next-at .ensures)), known-arguments (c .before .before .before .before .before .before .before .before .before .before .before .pre .1) (c .before .before .before .before .before .before .before .before .if1 .left) (c .next-at .ensures))
 
--- src/lib.rt:187:1
 arguments-returns-4 : (t : ℕ) → arguments-lts.Need-returns-4 (
   lvalue-at-reads.Asked,
   lvalue-at-reads.Learnt,

@@ -1,6 +1,6 @@
+-- Along the chain and the parameters together.
 use Rattle.walker.specs.Ways.{fit-none, at-end, fit-stops, fit-goes, fit-next}
 use borrow.Author.Needs.{needs}
--- Along the chain and the parameters together.
 use mathlib.Core.Path.{_≡_, refl, sym, ap, _∙_}
 use Prim.Native.Nat.{_-_}
 use native.Mathlib.Omega.{arith}
@@ -33,7 +33,6 @@ arguments-fit-below t =
     (falls 2 arguments-fit-kinds.ps _<_ μ-arguments-fit t)
     arguments-fit.Pre
 
--- src/lib.rt:223:9
 arguments-fit-returns : (t : ℕ) → arguments-fit-lts.Need-returns (
   lvalue-at-reads.Asked,
   lvalue-at-reads.Learnt,
@@ -46,7 +45,6 @@ arguments-fit-returns : (t : ℕ) → arguments-fit-lts.Need-returns (
 ) (arguments-fit-at t) arguments-fit.Post
 arguments-fit-returns t c = λ h s k own. rw (no-arguments k (c .if1 .taken)) (fit-none s _ _ (c .before .before .before .pre .1 .1))
 
--- src/lib.rt:226:9
 arguments-fit-returns-2 : (t : ℕ) → arguments-fit-lts.Need-returns-2 (
   lvalue-at-reads.Asked,
   lvalue-at-reads.Learnt,
@@ -59,7 +57,6 @@ arguments-fit-returns-2 : (t : ℕ) → arguments-fit-lts.Need-returns-2 (
 ) (arguments-fit-at t) arguments-fit.Post
 arguments-fit-returns-2 t c = λ h s k own. at-end s (chain-standing k (c .before .if1 .left)) _ _ (c .if2 .taken)
 
--- src/lib.rt:228:28
 arguments-fit-lvalue-at-requires : (t : ℕ) → arguments-fit-lts.Need-lvalue-at-requires (
   lvalue-at-reads.Asked,
   lvalue-at-reads.Learnt,
@@ -72,7 +69,6 @@ arguments-fit-lvalue-at-requires : (t : ℕ) → arguments-fit-lts.Need-lvalue-a
 ) (arguments-fit-at t) arguments-fit.Post
 arguments-fit-lvalue-at-requires t c κs = search needs
 
--- src/lib.rt:228:23
 arguments-fit-enum-known-l : (t : ℕ) → arguments-fit-lts.Need-enum-known-l (
   lvalue-at-reads.Asked,
   lvalue-at-reads.Learnt,
@@ -85,7 +81,6 @@ arguments-fit-enum-known-l : (t : ℕ) → arguments-fit-lts.Need-enum-known-l (
 ) (arguments-fit-at t) arguments-fit.Post
 arguments-fit-enum-known-l t c = search needs
 
--- src/lib.rt:229:9
 arguments-fit-enum-told : (t : ℕ) → arguments-fit-lts.Need-enum-told (
   lvalue-at-reads.Asked,
   lvalue-at-reads.Learnt,
@@ -98,7 +93,6 @@ arguments-fit-enum-told : (t : ℕ) → arguments-fit-lts.Need-enum-told (
 ) (arguments-fit-at t) arguments-fit.Post
 arguments-fit-enum-told t c = search needs
 
--- src/lib.rt:229:9
 arguments-fit-returns-3 : (t : ℕ) → arguments-fit-lts.Need-returns-3 (
   lvalue-at-reads.Asked,
   lvalue-at-reads.Learnt,
@@ -112,7 +106,6 @@ arguments-fit-returns-3 : (t : ℕ) → arguments-fit-lts.Need-returns-3 (
 arguments-fit-returns-3 t c =
     λ h s k. absurd (no-other (chain-standing k (c .before .before .before .before .if1 .left)) (sym (c .before .before .lvalue-at .ensures) ∙ c .enum-told .given .1))
 
--- src/lib.rt:231:9
 arguments-fit-argument-fits-requires : (t : ℕ) → arguments-fit-lts.Need-argument-fits-requires (
   lvalue-at-reads.Asked,
   lvalue-at-reads.Learnt,
@@ -125,7 +118,6 @@ arguments-fit-argument-fits-requires : (t : ℕ) → arguments-fit-lts.Need-argu
 ) (arguments-fit-at t) arguments-fit.Post
 arguments-fit-argument-fits-requires t c κs = search needs
 
--- src/lib.rt:232:9
 arguments-fit-returns-4 : (t : ℕ) → arguments-fit-lts.Need-returns-4 (
   lvalue-at-reads.Asked,
   lvalue-at-reads.Learnt,
@@ -142,7 +134,6 @@ arguments-fit-returns-4 t c =
     let d = sym (c .before .before .before .before .before .lvalue-at .ensures) ∙ c .before .before .before .l .given .1 in
     rw (first-argument st d refl) (fit-stops s _ _ _ _ (c .before .argument-fits .ensures .is h s own) (not-true _ (c .if3 .taken)))
 
--- src/lib.rt:234:37
 arguments-fit-next-at-requires : (t : ℕ) → arguments-fit-lts.Need-next-at-requires (
   lvalue-at-reads.Asked,
   lvalue-at-reads.Learnt,
@@ -155,7 +146,6 @@ arguments-fit-next-at-requires : (t : ℕ) → arguments-fit-lts.Need-next-at-re
 ) (arguments-fit-at t) arguments-fit.Post
 arguments-fit-next-at-requires t c κs = search needs
 
--- src/lib.rt:234:65
 arguments-fit-add-arguments-fit : (t : ℕ) → arguments-fit-lts.Need-add-arguments-fit (
   lvalue-at-reads.Asked,
   lvalue-at-reads.Learnt,
@@ -169,7 +159,6 @@ arguments-fit-add-arguments-fit : (t : ℕ) → arguments-fit-lts.Need-add-argum
 arguments-fit-add-arguments-fit t c =
     omega (arith, c .before .before .before .before .before .before .before .before .before .before .before .pre .1 .1, c .before .before .before .before .before .before .before .if2 .left)
 
--- src/lib.rt:234:5
 arguments-fit-arguments-fit-requires : (t : ℕ) → arguments-fit-lts.Need-arguments-fit-requires (
   lvalue-at-reads.Asked,
   lvalue-at-reads.Learnt,
@@ -183,7 +172,6 @@ arguments-fit-arguments-fit-requires : (t : ℕ) → arguments-fit-lts.Need-argu
 arguments-fit-arguments-fit-requires t c κs =
     (omega (arith, c .before .before .before .before .before .before .before .before .before .before .before .pre .0, argument-ahead (c .before .before .before .before .before .before .before .before .before .before .before .pre .1 .0) (c .before .before .before .before .before .before .before .before .if1 .left) (c .next-at .ensures)), (known-arguments (c .before .before .before .before .before .before .before .before .before .before .before .pre .1 .0) (c .before .before .before .before .before .before .before .before .if1 .left) (c .next-at .ensures), omega (arith, c .before .before .before .before .before .before .before .before .before .before .before .pre .1 .1, c .before .before .before .before .before .before .before .if2 .left)))
 
--- src/lib.rt:217:1
 arguments-fit-returns-5 : (t : ℕ) → arguments-fit-lts.Need-returns-5 (
   lvalue-at-reads.Asked,
   lvalue-at-reads.Learnt,

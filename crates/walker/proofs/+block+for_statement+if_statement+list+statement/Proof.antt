@@ -1,5 +1,5 @@
-use borrow.Author.Needs.{needs}
 -- Children in field order, then own rules, then next; what a node refers to has a larger number.
+use borrow.Author.Needs.{needs}
 use mathlib.Core.Path.{_≡_, refl, sym, ap, _∙_}
 use mathlib.Core.Logic.{inl, inr}
 use Prim.Native.Nat.{_+_, _-_, _*_}
@@ -104,7 +104,6 @@ abbrev statement-below : ℕ → In 5 statement-kinds.ps
 statement-below t =
     and 5 statement-kinds.ps (falls 5 statement-kinds.ps _<_ μ-statement t) statement′.Pre
 
--- src/lib.rt:520:9
 block-block-rules-requires : (t : ℕ) → block-lts.Need-block-rules-requires (
   block-rules-reads.Asked,
   block-rules-reads.Learnt,
@@ -115,7 +114,6 @@ block-block-rules-requires : (t : ℕ) → block-lts.Need-block-rules-requires (
 ) (block-at t) block.Post
 block-block-rules-requires t c κs = range-small (c .before .before .before .before .pre .1 .0) (c .before .before .before .before .pre .1 .1) _ _ (λ h s r. r .0)
 
--- src/lib.rt:522:9
 block-returns : (t : ℕ) → block-lts.Need-returns (
   block-rules-reads.Asked,
   block-rules-reads.Learnt,
@@ -127,7 +125,6 @@ block-returns : (t : ℕ) → block-lts.Need-returns (
 block-returns t c =
     λ h s st. rw (means st (c .before .before .before .before .before .before .before .pre .1 .1)) (block-names-stop (λ Γ D g. c .before .before .block-rules .ensures .is s D (g .names .own) (g .own) (g .marks)) (c .if1 .taken))
 
--- src/lib.rt:525:5
 block-mark-range-requires : (t : ℕ) → block-lts.Need-mark-range-requires (
   block-rules-reads.Asked,
   block-rules-reads.Learnt,
@@ -139,7 +136,6 @@ block-mark-range-requires : (t : ℕ) → block-lts.Need-mark-range-requires (
 block-mark-range-requires t c κs =
     range-small (c .before .before .before .before .before .before .before .before .before .pre .1 .0) (c .before .before .before .before .before .before .before .before .before .pre .1 .1) _ _ (λ h s r. r .0)
 
--- src/lib.rt:526:5
 block-mark-range-requires-2 : (t : ℕ) → block-lts.Need-mark-range-requires-2 (
   block-rules-reads.Asked,
   block-rules-reads.Learnt,
@@ -151,7 +147,6 @@ block-mark-range-requires-2 : (t : ℕ) → block-lts.Need-mark-range-requires-2
 block-mark-range-requires-2 t c κs =
     range-small (c .before .before .before .before .before .before .before .before .before .before .before .pre .1 .0) (c .before .before .before .before .before .before .before .before .before .before .before .pre .1 .1) _ _ (λ h s r. r .0)
 
--- src/lib.rt:527:5
 block-list-requires : (t : ℕ) → block-lts.Need-list-requires (
   block-rules-reads.Asked,
   block-rules-reads.Learnt,
@@ -163,7 +158,6 @@ block-list-requires : (t : ℕ) → block-lts.Need-list-requires (
 block-list-requires t c κs =
     (omega (arith, c .before .before .before .before .before .before .before .before .before .before .before .before .before .before .pre .0, begun-behind (known-of (c .before .before .before .before .before .before .before .before .before .before .before .before .before .before .pre .1 .0)) (c .before .before .before .before .before .before .before .before .before .before .before .before .before .before .pre .1 .1) (λ h s r. r .1)), walkable-begun (c .before .before .before .before .before .before .before .before .before .before .before .before .before .before .pre .1 .0) (c .before .before .before .before .before .before .before .before .before .before .before .before .before .before .pre .1 .1) (λ h s r. r .1))
 
--- src/lib.rt:515:1
 block-returns-2 : (t : ℕ) → block-lts.Need-returns-2 (
   block-rules-reads.Asked,
   block-rules-reads.Learnt,
@@ -178,7 +172,6 @@ block-returns-2 t c =
     rw (means st d)
     (block-goes (λ Γ D g. c .before .before .before .before .before .before .before .before .before .before .block-rules .ensures .is s D (g .names .own) (g .own) (g .marks)) (c .before .before .before .before .before .before .before .before .if1 .left) (c .before .before .before .before .before .mark-range .ensures) (c .before .before .before .mark-range2 .ensures) (c .list .ensures h s (begun st (refers st d .1))))
 
--- src/lib.rt:492:9
 for-statement-expression-requires : (t : ℕ) → for-statement-lts.Need-expression-requires (
   expression-reads.Asked,
   expression-reads.Learnt,
@@ -195,7 +188,6 @@ for-statement-expression-requires : (t : ℕ) → for-statement-lts.Need-express
 ) (for-statement-at t) for-statement.Post
 for-statement-expression-requires t c κs = known-child (known-of (c .before .before .before .pre .1 .0)) (c .before .before .before .pre .1 .1) (λ h s r. r .1 .0)
 
--- src/lib.rt:494:9
 for-statement-verdict-of-requires : (t : ℕ) → for-statement-lts.Need-verdict-of-requires (
   expression-reads.Asked,
   expression-reads.Learnt,
@@ -212,7 +204,6 @@ for-statement-verdict-of-requires : (t : ℕ) → for-statement-lts.Need-verdict
 ) (for-statement-at t) for-statement.Post
 for-statement-verdict-of-requires t c κs = search needs
 
--- src/lib.rt:494:9
 for-statement-returns : (t : ℕ) → for-statement-lts.Need-returns (
   expression-reads.Asked,
   expression-reads.Learnt,
@@ -230,7 +221,6 @@ for-statement-returns : (t : ℕ) → for-statement-lts.Need-returns (
 for-statement-returns t c =
     λ h s st. let d = c .before .before .before .before .before .before .before .pre .1 .1 in rw (means st d) (for-first-stops (c .before .before .before .expression .ensures h s (standing-child st (refers st d .1 .0))) (c .verdict-of .ensures) (c .before .if1 .taken))
 
--- src/lib.rt:496:9
 for-statement-expression-requires-2 : (t : ℕ) → for-statement-lts.Need-expression-requires-2 (
   expression-reads.Asked,
   expression-reads.Learnt,
@@ -248,7 +238,6 @@ for-statement-expression-requires-2 : (t : ℕ) → for-statement-lts.Need-expre
 for-statement-expression-requires-2 t c κs =
     known-child (known-of (c .before .before .before .before .before .before .pre .1 .0)) (c .before .before .before .before .before .before .pre .1 .1) (λ h s r. r .1 .1 .0)
 
--- src/lib.rt:498:9
 for-statement-verdict-of-requires-2 : (t : ℕ) → for-statement-lts.Need-verdict-of-requires-2 (
   expression-reads.Asked,
   expression-reads.Learnt,
@@ -265,7 +254,6 @@ for-statement-verdict-of-requires-2 : (t : ℕ) → for-statement-lts.Need-verdi
 ) (for-statement-at t) for-statement.Post
 for-statement-verdict-of-requires-2 t c κs = search needs
 
--- src/lib.rt:498:9
 for-statement-returns-2 : (t : ℕ) → for-statement-lts.Need-returns-2 (
   expression-reads.Asked,
   expression-reads.Learnt,
@@ -283,7 +271,6 @@ for-statement-returns-2 : (t : ℕ) → for-statement-lts.Need-returns-2 (
 for-statement-returns-2 t c =
     λ h s st. let d = c .before .before .before .before .before .before .before .before .before .before .pre .1 .1 in rw (means st d) (for-second-stops (c .before .before .before .before .before .before .expression .ensures h s (standing-child st (refers st d .1 .0))) (c .before .before .before .before .if1 .left) (c .before .before .before .expression2 .ensures h s (standing-child st (refers st d .1 .1 .0))) (c .verdict-of2 .ensures) (c .before .if2 .taken))
 
--- src/lib.rt:500:9
 for-statement-counter-rules-requires : (t : ℕ) → for-statement-lts.Need-counter-rules-requires (
   expression-reads.Asked,
   expression-reads.Learnt,
@@ -300,7 +287,6 @@ for-statement-counter-rules-requires : (t : ℕ) → for-statement-lts.Need-coun
 ) (for-statement-at t) for-statement.Post
 for-statement-counter-rules-requires t c κs = search needs
 
--- src/lib.rt:502:9
 for-statement-returns-3 : (t : ℕ) → for-statement-lts.Need-returns-3 (
   expression-reads.Asked,
   expression-reads.Learnt,
@@ -322,7 +308,6 @@ for-statement-returns-3 t c =
     (for-name-stops (c .before .before .before .before .before .before .before .before .before .expression .ensures h s (standing-child st (refers st d .1 .0))) (c .before .before .before .before .before .before .before .if1 .left) (c .before .before .before .before .before .before .expression2 .ensures h s (standing-child st (refers st d .1 .1 .0))) (c .before .before .before .before .if2 .left)
     (λ Γ D g. c .before .before .counter-rules .ensures .is s D (g .names .own) (g .own) (g .marks) (name-small st (refers st d .0))) (c .if3 .taken))
 
--- src/lib.rt:505:5
 for-statement-mark-requires : (t : ℕ) → for-statement-lts.Need-mark-requires (
   expression-reads.Asked,
   expression-reads.Learnt,
@@ -339,7 +324,6 @@ for-statement-mark-requires : (t : ℕ) → for-statement-lts.Need-mark-requires
 ) (for-statement-at t) for-statement.Post
 for-statement-mark-requires t c κs = search needs
 
--- src/lib.rt:506:5
 for-statement-mark-requires-2 : (t : ℕ) → for-statement-lts.Need-mark-requires-2 (
   expression-reads.Asked,
   expression-reads.Learnt,
@@ -356,7 +340,6 @@ for-statement-mark-requires-2 : (t : ℕ) → for-statement-lts.Need-mark-requir
 ) (for-statement-at t) for-statement.Post
 for-statement-mark-requires-2 t c κs = search needs
 
--- src/lib.rt:507:9
 for-statement-statement-requires : (t : ℕ) → for-statement-lts.Need-statement-requires (
   expression-reads.Asked,
   expression-reads.Learnt,
@@ -374,7 +357,6 @@ for-statement-statement-requires : (t : ℕ) → for-statement-lts.Need-statemen
 for-statement-statement-requires t c κs =
     (omega (arith, c .before .before .before .before .before .before .before .before .before .before .before .before .before .before .before .before .before .before .before .before .pre .0, behind (known-of (c .before .before .before .before .before .before .before .before .before .before .before .before .before .before .before .before .before .before .before .before .pre .1 .0)) (c .before .before .before .before .before .before .before .before .before .before .before .before .before .before .before .before .before .before .before .before .pre .1 .1) (λ h s r. r .1 .1 .1)), walkable-child (c .before .before .before .before .before .before .before .before .before .before .before .before .before .before .before .before .before .before .before .before .pre .1 .0) (c .before .before .before .before .before .before .before .before .before .before .before .before .before .before .before .before .before .before .before .before .pre .1 .1) (λ h s r. r .1 .1 .1))
 
--- src/lib.rt:509:9
 for-statement-returns-4 : (t : ℕ) → for-statement-lts.Need-returns-4 (
   expression-reads.Asked,
   expression-reads.Learnt,
@@ -398,7 +380,6 @@ for-statement-returns-4 t c =
     (λ Γ D g. c .before .before .before .before .before .before .before .before .before .before .before .before .counter-rules .ensures .is s D (g .names .own) (g .own) (g .marks) l) (c .before .before .before .before .before .before .before .before .before .before .if3 .left) (c .before .before .before .before .before .before .before .mark .ensures l) (c .before .before .before .before .before .mark2 .ensures l)
     (c .before .before .statement .ensures h s (standing-child st (refers st d .1 .1 .1))) (c .if4 .taken))
 
--- src/lib.rt:511:5
 for-statement-for-rules-requires : (t : ℕ) → for-statement-lts.Need-for-rules-requires (
   expression-reads.Asked,
   expression-reads.Learnt,
@@ -416,7 +397,6 @@ for-statement-for-rules-requires : (t : ℕ) → for-statement-lts.Need-for-rule
 for-statement-for-rules-requires t c κs =
     let k = known-of (c .before .before .before .before .before .before .before .before .before .before .before .before .before .before .before .before .before .before .before .before .before .before .before .before .before .pre .1 .0) in let d = c .before .before .before .before .before .before .before .before .before .before .before .before .before .before .before .before .before .before .before .before .before .before .before .before .before .pre .1 .1 in (known-child k d (λ h s r. r .1 .0), known-child k d (λ h s r. r .1 .1 .0), known-child k d (λ h s r. r .1 .1 .1))
 
--- src/lib.rt:487:1
 for-statement-returns-5 : (t : ℕ) → for-statement-lts.Need-returns-5 (
   expression-reads.Asked,
   expression-reads.Learnt,
@@ -443,7 +423,6 @@ for-statement-returns-5 t c =
     (λ Γ D g. c .before .before .before .before .before .before .before .before .before .before .before .before .before .before .before .counter-rules .ensures .is s D (g .names .own) (g .own) (g .marks) l) (c .before .before .before .before .before .before .before .before .before .before .before .before .before .if3 .left) (c .before .before .before .before .before .before .before .before .before .before .mark .ensures l) (c .before .before .before .before .before .before .before .before .mark2 .ensures l)
     (c .before .before .before .before .before .statement .ensures h s t) (c .before .before .before .if4 .left) (c .for-rules .ensures .is h s a b t))
 
--- src/lib.rt:471:9
 if-statement-expression-requires : (t : ℕ) → if-statement-lts.Need-expression-requires (
   expression-reads.Asked,
   expression-reads.Learnt,
@@ -456,7 +435,6 @@ if-statement-expression-requires : (t : ℕ) → if-statement-lts.Need-expressio
 ) (if-statement-at t) if-statement.Post
 if-statement-expression-requires t c κs = known-child (known-of (c .before .before .before .pre .1 .0)) (c .before .before .before .pre .1 .1) (λ h s r. r .0)
 
--- src/lib.rt:473:9
 if-statement-verdict-of-requires : (t : ℕ) → if-statement-lts.Need-verdict-of-requires (
   expression-reads.Asked,
   expression-reads.Learnt,
@@ -469,7 +447,6 @@ if-statement-verdict-of-requires : (t : ℕ) → if-statement-lts.Need-verdict-o
 ) (if-statement-at t) if-statement.Post
 if-statement-verdict-of-requires t c κs = search needs
 
--- src/lib.rt:473:9
 if-statement-returns : (t : ℕ) → if-statement-lts.Need-returns (
   expression-reads.Asked,
   expression-reads.Learnt,
@@ -483,7 +460,6 @@ if-statement-returns : (t : ℕ) → if-statement-lts.Need-returns (
 if-statement-returns t c =
     λ h s st. let d = c .before .before .before .before .before .before .before .pre .1 .1 in rw (means st d) (if-condition-stops (c .before .before .before .expression .ensures h s (standing-child st (refers st d .0))) (c .verdict-of .ensures) (c .before .if1 .taken))
 
--- src/lib.rt:475:9
 if-statement-statement-requires : (t : ℕ) → if-statement-lts.Need-statement-requires (
   expression-reads.Asked,
   expression-reads.Learnt,
@@ -497,7 +473,6 @@ if-statement-statement-requires : (t : ℕ) → if-statement-lts.Need-statement-
 if-statement-statement-requires t c κs =
     (omega (arith, c .before .before .before .before .before .before .before .pre .0, behind (known-of (c .before .before .before .before .before .before .before .pre .1 .0)) (c .before .before .before .before .before .before .before .pre .1 .1) (λ h s r. r .1 .0)), walkable-child (c .before .before .before .before .before .before .before .pre .1 .0) (c .before .before .before .before .before .before .before .pre .1 .1) (λ h s r. r .1 .0))
 
--- src/lib.rt:477:9
 if-statement-returns-2 : (t : ℕ) → if-statement-lts.Need-returns-2 (
   expression-reads.Asked,
   expression-reads.Learnt,
@@ -511,7 +486,6 @@ if-statement-returns-2 : (t : ℕ) → if-statement-lts.Need-returns-2 (
 if-statement-returns-2 t c =
     λ h s st. let d = c .before .before .before .before .before .before .before .before .before .before .pre .1 .1 in rw (means st d) (if-yes-stops (c .before .before .before .before .before .before .expression .ensures h s (standing-child st (refers st d .0))) (c .before .before .before .before .if1 .left) (c .before .before .statement .ensures h s (standing-child st (refers st d .1 .0))) (c .if2 .taken))
 
--- src/lib.rt:479:9
 if-statement-statement-requires-2 : (t : ℕ) → if-statement-lts.Need-statement-requires-2 (
   expression-reads.Asked,
   expression-reads.Learnt,
@@ -525,7 +499,6 @@ if-statement-statement-requires-2 : (t : ℕ) → if-statement-lts.Need-statemen
 if-statement-statement-requires-2 t c κs =
     (omega (arith, c .before .before .before .before .before .before .before .before .before .before .before .pre .0, behind (known-of (c .before .before .before .before .before .before .before .before .before .before .before .pre .1 .0)) (c .before .before .before .before .before .before .before .before .before .before .before .pre .1 .1) (λ h s r. r .1 .1)), walkable-child (c .before .before .before .before .before .before .before .before .before .before .before .pre .1 .0) (c .before .before .before .before .before .before .before .before .before .before .before .pre .1 .1) (λ h s r. r .1 .1))
 
--- src/lib.rt:481:9
 if-statement-returns-3 : (t : ℕ) → if-statement-lts.Need-returns-3 (
   expression-reads.Asked,
   expression-reads.Learnt,
@@ -539,7 +512,6 @@ if-statement-returns-3 : (t : ℕ) → if-statement-lts.Need-returns-3 (
 if-statement-returns-3 t c =
     λ h s st. let d = c .before .before .before .before .before .before .before .before .before .before .before .before .before .before .pre .1 .1 in rw (means st d) (if-no-stops (c .before .before .before .before .before .before .before .before .before .before .expression .ensures h s (standing-child st (refers st d .0))) (c .before .before .before .before .before .before .before .before .if1 .left) (c .before .before .before .before .before .before .statement .ensures h s (standing-child st (refers st d .1 .0))) (c .before .before .before .before .if2 .left) (c .before .before .statement2 .ensures h s (standing-child st (refers st d .1 .1))) (c .if3 .taken))
 
--- src/lib.rt:483:5
 if-statement-if-rules-requires : (t : ℕ) → if-statement-lts.Need-if-rules-requires (
   expression-reads.Asked,
   expression-reads.Learnt,
@@ -553,7 +525,6 @@ if-statement-if-rules-requires : (t : ℕ) → if-statement-lts.Need-if-rules-re
 if-statement-if-rules-requires t c κs =
     let k = known-of (c .before .before .before .before .before .before .before .before .before .before .before .before .before .before .pre .1 .0) in let d = c .before .before .before .before .before .before .before .before .before .before .before .before .before .before .pre .1 .1 in (known-child k d (λ h s r. r .0), known-child k d (λ h s r. r .1 .0), known-child k d (λ h s r. r .1 .1))
 
--- src/lib.rt:466:1
 if-statement-returns-4 : (t : ℕ) → if-statement-lts.Need-returns-4 (
   expression-reads.Asked,
   expression-reads.Learnt,
@@ -572,7 +543,6 @@ if-statement-returns-4 t c =
     let z = standing-child st (refers st d .1 .1) in
     rw (means st d) (if-goes (c .before .before .before .before .before .before .before .before .before .before .before .expression .ensures h s e) (c .before .before .before .before .before .before .before .before .before .if1 .left) (c .before .before .before .before .before .before .before .statement .ensures h s y) (c .before .before .before .before .before .if2 .left) (c .before .before .before .statement2 .ensures h s z) (c .before .if3 .left) (c .if-rules .ensures .is h s e y z))
 
--- src/lib.rt:537:9
 list-returns : (t : ℕ) → list-lts.Need-returns (
   statement-below t,
   statement′.Post,
@@ -583,7 +553,6 @@ list-returns : (t : ℕ) → list-lts.Need-returns (
 ) (list-at t) list.Post
 list-returns t c = λ h s k. rw (no-statements k (c .if1 .taken)) (list-none refl)
 
--- src/lib.rt:539:9
 list-statement-requires : (t : ℕ) → list-lts.Need-statement-requires (
   statement-below t,
   statement′.Post,
@@ -595,7 +564,6 @@ list-statement-requires : (t : ℕ) → list-lts.Need-statement-requires (
 list-statement-requires t c κs =
     (omega (arith, c .before .before .before .before .before .pre .0), walkable-first (c .before .before .before .before .before .pre .1) (c .before .if1 .left))
 
--- src/lib.rt:541:9
 list-returns-2 : (t : ℕ) → list-lts.Need-returns-2 (
   statement-below t,
   statement′.Post,
@@ -607,7 +575,6 @@ list-returns-2 : (t : ℕ) → list-lts.Need-returns-2 (
 list-returns-2 t c =
     λ h s k. let st = chain-standing k (c .before .before .before .before .if1 .left) in rw (first-statement st refl) (list-stops (c .before .before .statement .ensures h s st) (c .if2 .taken))
 
--- src/lib.rt:543:57
 list-next-at-requires : (t : ℕ) → list-lts.Need-next-at-requires (
   statement-below t,
   statement′.Post,
@@ -618,7 +585,6 @@ list-next-at-requires : (t : ℕ) → list-lts.Need-next-at-requires (
 ) (list-at t) list.Post
 list-next-at-requires t c κs = search needs
 
--- src/lib.rt:543:5
 list-list-requires : (t : ℕ) → list-lts.Need-list-requires (
   statement-below t,
   statement′.Post,
@@ -630,7 +596,6 @@ list-list-requires : (t : ℕ) → list-lts.Need-list-requires (
 list-list-requires t c κs =
     (omega (arith, c .before .before .before .before .before .before .before .before .before .before .pre .0, walkable-ahead (c .before .before .before .before .before .before .before .before .before .before .pre .1) (c .before .before .before .before .before .before .if1 .left) (c .next-at .ensures)), walkable-next (c .before .before .before .before .before .before .before .before .before .before .pre .1) (c .before .before .before .before .before .before .if1 .left) (c .next-at .ensures))
 
--- src/lib.rt:531:1
 list-returns-3 : (t : ℕ) → list-lts.Need-returns-3 (
   statement-below t,
   statement′.Post,
@@ -642,7 +607,6 @@ list-returns-3 : (t : ℕ) → list-lts.Need-returns-3 (
 list-returns-3 t c =
     λ h s k. let st = chain-standing k (c .before .before .before .before .before .before .before .if1 .left) in rw (first-statement st (c .before .next-at .ensures)) (list-goes (c .before .before .before .before .before .statement .ensures h s st) (c .before .before .before .if2 .left) (c .list .ensures h s (later-statements st (c .before .next-at .ensures))))
 
--- src/lib.rt:448:29
 statement-node-at-requires : (t : ℕ) → statement-lts.Need-node-at-requires (
   node-at-reads.Asked,
   node-at-reads.Learnt,
@@ -663,7 +627,6 @@ statement-node-at-requires : (t : ℕ) → statement-lts.Need-node-at-requires (
 ) (statement-at t) statement′.Post
 statement-node-at-requires t c κs = search needs
 
--- src/lib.rt:448:21
 statement-enum-known-node : (t : ℕ) → statement-lts.Need-enum-known-node (
   node-at-reads.Asked,
   node-at-reads.Learnt,
@@ -684,7 +647,6 @@ statement-enum-known-node : (t : ℕ) → statement-lts.Need-enum-known-node (
 ) (statement-at t) statement′.Post
 statement-enum-known-node t c = search needs
 
--- src/lib.rt:449:9
 statement-enum-told : (t : ℕ) → statement-lts.Need-enum-told (
   node-at-reads.Asked,
   node-at-reads.Learnt,
@@ -705,7 +667,6 @@ statement-enum-told : (t : ℕ) → statement-lts.Need-enum-told (
 ) (statement-at t) statement′.Post
 statement-enum-told t c = search needs
 
--- src/lib.rt:449:9
 statement-returns : (t : ℕ) → statement-lts.Need-returns (
   node-at-reads.Asked,
   node-at-reads.Learnt,
@@ -726,7 +687,6 @@ statement-returns : (t : ℕ) → statement-lts.Need-returns (
 ) (statement-at t) statement′.Post
 statement-returns t c = λ h s st. absurd (never-refused st (sym (c .before .before .node-at .ensures) ∙ c .enum-told .given .1))
 
--- src/lib.rt:452:24
 statement-enum-told-2 : (t : ℕ) → statement-lts.Need-enum-told-2 (
   node-at-reads.Asked,
   node-at-reads.Learnt,
@@ -747,7 +707,6 @@ statement-enum-told-2 : (t : ℕ) → statement-lts.Need-enum-told-2 (
 ) (statement-at t) statement′.Post
 statement-enum-told-2 t c = search needs
 
--- src/lib.rt:453:24
 statement-enum-known-node-2 : (t : ℕ) → statement-lts.Need-enum-known-node-2 (
   node-at-reads.Asked,
   node-at-reads.Learnt,
@@ -768,7 +727,6 @@ statement-enum-known-node-2 : (t : ℕ) → statement-lts.Need-enum-known-node-2
 ) (statement-at t) statement′.Post
 statement-enum-known-node-2 t c = search needs
 
--- src/lib.rt:453:53
 statement-update-requires : (t : ℕ) → statement-lts.Need-update-requires (
   node-at-reads.Asked,
   node-at-reads.Learnt,
@@ -790,7 +748,6 @@ statement-update-requires : (t : ℕ) → statement-lts.Need-update-requires (
 statement-update-requires t c κs =
     record { known = known-of (c .before .before .before .before .before .before .before .before .before .before .pre .1); operator = _; is = decoded (c .before .before .before .before .before .before .node-at .ensures) (c .before .before .before .before .node .given .1) (c .before .node2 .given .1) }
 
--- src/lib.rt:454:22
 statement-enum-known-node-3 : (t : ℕ) → statement-lts.Need-enum-known-node-3 (
   node-at-reads.Asked,
   node-at-reads.Learnt,
@@ -811,7 +768,6 @@ statement-enum-known-node-3 : (t : ℕ) → statement-lts.Need-enum-known-node-3
 ) (statement-at t) statement′.Post
 statement-enum-known-node-3 t c = search needs
 
--- src/lib.rt:454:39
 statement-swap-requires : (t : ℕ) → statement-lts.Need-swap-requires (
   node-at-reads.Asked,
   node-at-reads.Learnt,
@@ -833,7 +789,6 @@ statement-swap-requires : (t : ℕ) → statement-lts.Need-swap-requires (
 statement-swap-requires t c κs =
     record { known = known-of (c .before .before .before .before .before .before .before .before .before .before .pre .1); is = decoded (c .before .before .before .before .before .before .node-at .ensures) (c .before .before .before .before .node .given .1) (c .before .node3 .given .1) }
 
--- src/lib.rt:455:33
 statement-enum-known-node-4 : (t : ℕ) → statement-lts.Need-enum-known-node-4 (
   node-at-reads.Asked,
   node-at-reads.Learnt,
@@ -854,7 +809,6 @@ statement-enum-known-node-4 : (t : ℕ) → statement-lts.Need-enum-known-node-4
 ) (statement-at t) statement′.Post
 statement-enum-known-node-4 t c = search needs
 
--- src/lib.rt:455:61
 statement-conditional-swap-requires : (t : ℕ) → statement-lts.Need-conditional-swap-requires (
   node-at-reads.Asked,
   node-at-reads.Learnt,
@@ -876,7 +830,6 @@ statement-conditional-swap-requires : (t : ℕ) → statement-lts.Need-condition
 statement-conditional-swap-requires t c κs =
     record { known = known-of (c .before .before .before .before .before .before .before .before .before .before .pre .1); is = decoded (c .before .before .before .before .before .before .node-at .ensures) (c .before .before .before .before .node .given .1) (c .before .node4 .given .1) }
 
--- src/lib.rt:456:20
 statement-enum-known-node-5 : (t : ℕ) → statement-lts.Need-enum-known-node-5 (
   node-at-reads.Asked,
   node-at-reads.Learnt,
@@ -897,7 +850,6 @@ statement-enum-known-node-5 : (t : ℕ) → statement-lts.Need-enum-known-node-5
 ) (statement-at t) statement′.Post
 statement-enum-known-node-5 t c = search needs
 
--- src/lib.rt:456:44
 statement-if-statement-requires : (t : ℕ) → statement-lts.Need-if-statement-requires (
   node-at-reads.Asked,
   node-at-reads.Learnt,
@@ -919,7 +871,6 @@ statement-if-statement-requires : (t : ℕ) → statement-lts.Need-if-statement-
 statement-if-statement-requires t c κs =
     (omega (arith, c .before .before .before .before .before .before .before .before .before .before .before .pre .0), (c .before .before .before .before .before .before .before .before .before .before .before .pre .1, decoded (c .before .before .before .before .before .before .before .node-at .ensures) (c .before .before .before .before .before .node .given .1) (c .before .before .node5 .given .1)))
 
--- src/lib.rt:457:21
 statement-enum-known-node-6 : (t : ℕ) → statement-lts.Need-enum-known-node-6 (
   node-at-reads.Asked,
   node-at-reads.Learnt,
@@ -940,7 +891,6 @@ statement-enum-known-node-6 : (t : ℕ) → statement-lts.Need-enum-known-node-6
 ) (statement-at t) statement′.Post
 statement-enum-known-node-6 t c = search needs
 
--- src/lib.rt:457:55
 statement-for-statement-requires : (t : ℕ) → statement-lts.Need-for-statement-requires (
   node-at-reads.Asked,
   node-at-reads.Learnt,
@@ -962,7 +912,6 @@ statement-for-statement-requires : (t : ℕ) → statement-lts.Need-for-statemen
 statement-for-statement-requires t c κs =
     (omega (arith, c .before .before .before .before .before .before .before .before .before .before .before .pre .0), (c .before .before .before .before .before .before .before .before .before .before .before .pre .1, decoded (c .before .before .before .before .before .before .before .node-at .ensures) (c .before .before .before .before .before .node .given .1) (c .before .before .node6 .given .1)))
 
--- src/lib.rt:458:22
 statement-enum-known-node-7 : (t : ℕ) → statement-lts.Need-enum-known-node-7 (
   node-at-reads.Asked,
   node-at-reads.Learnt,
@@ -983,7 +932,6 @@ statement-enum-known-node-7 : (t : ℕ) → statement-lts.Need-enum-known-node-7
 ) (statement-at t) statement′.Post
 statement-enum-known-node-7 t c = search needs
 
--- src/lib.rt:458:47
 statement-call-requires : (t : ℕ) → statement-lts.Need-call-requires (
   node-at-reads.Asked,
   node-at-reads.Learnt,
@@ -1005,7 +953,6 @@ statement-call-requires : (t : ℕ) → statement-lts.Need-call-requires (
 statement-call-requires t c κs =
     let d = decoded (c .before .before .before .before .before .before .node-at .ensures) (c .before .before .before .before .node .given .1) (c .before .node7 .given .1) in (record { known = known-of (c .before .before .before .before .before .before .before .before .before .before .pre .1); is = inl d }, callable (c .before .before .before .before .before .before .before .before .before .before .pre .1) d (λ h s r. r .0))
 
--- src/lib.rt:459:24
 statement-enum-known-node-8 : (t : ℕ) → statement-lts.Need-enum-known-node-8 (
   node-at-reads.Asked,
   node-at-reads.Learnt,
@@ -1026,7 +973,6 @@ statement-enum-known-node-8 : (t : ℕ) → statement-lts.Need-enum-known-node-8
 ) (statement-at t) statement′.Post
 statement-enum-known-node-8 t c = search needs
 
--- src/lib.rt:459:49
 statement-call-requires-2 : (t : ℕ) → statement-lts.Need-call-requires-2 (
   node-at-reads.Asked,
   node-at-reads.Learnt,
@@ -1048,7 +994,6 @@ statement-call-requires-2 : (t : ℕ) → statement-lts.Need-call-requires-2 (
 statement-call-requires-2 t c κs =
     let d = decoded (c .before .before .before .before .before .before .node-at .ensures) (c .before .before .before .before .node .given .1) (c .before .node8 .given .1) in (record { known = known-of (c .before .before .before .before .before .before .before .before .before .before .pre .1); is = inr d }, callable (c .before .before .before .before .before .before .before .before .before .before .pre .1) d (λ h s r. r .0))
 
--- src/lib.rt:460:23
 statement-enum-known-node-9 : (t : ℕ) → statement-lts.Need-enum-known-node-9 (
   node-at-reads.Asked,
   node-at-reads.Learnt,
@@ -1069,7 +1014,6 @@ statement-enum-known-node-9 : (t : ℕ) → statement-lts.Need-enum-known-node-9
 ) (statement-at t) statement′.Post
 statement-enum-known-node-9 t c = search needs
 
--- src/lib.rt:460:52
 statement-block-requires : (t : ℕ) → statement-lts.Need-block-requires (
   node-at-reads.Asked,
   node-at-reads.Learnt,
@@ -1091,7 +1035,6 @@ statement-block-requires : (t : ℕ) → statement-lts.Need-block-requires (
 statement-block-requires t c κs =
     (omega (arith, c .before .before .before .before .before .before .before .before .before .before .before .pre .0), (c .before .before .before .before .before .before .before .before .before .before .before .pre .1, decoded (c .before .before .before .before .before .before .before .node-at .ensures) (c .before .before .before .before .before .node .given .1) (c .before .before .node9 .given .1)))
 
--- src/lib.rt:443:1
 statement-returns-2 : (t : ℕ) → statement-lts.Need-returns-2 (
   node-at-reads.Asked,
   node-at-reads.Learnt,
@@ -1114,7 +1057,6 @@ unfolding declared stmtRefusal
 statement-returns-2 t c =
     λ h s st. let d = decoded (c .before .before .before .before .before .node-at .ensures) (c .before .before .before .node .given .1) (c .enum-told2 .given .1) in rw (means st d) (walked-plain refl (λ Γ D g. refl))
 
--- src/lib.rt:443:1
 statement-returns-3 : (t : ℕ) → statement-lts.Need-returns-3 (
   node-at-reads.Asked,
   node-at-reads.Learnt,
@@ -1137,7 +1079,6 @@ unfolding declared
 statement-returns-3 t c =
     λ h s st. walked-plain (rw (means st (decoded (c .before .before .before .before .before .before .before .node-at .ensures) (c .before .before .before .before .before .node .given .1) (c .before .before .node2 .given .1)))) (λ Γ D g. c .update .ensures h s st .is _ Γ D (g .names))
 
--- src/lib.rt:443:1
 statement-returns-4 : (t : ℕ) → statement-lts.Need-returns-4 (
   node-at-reads.Asked,
   node-at-reads.Learnt,
@@ -1160,7 +1101,6 @@ unfolding declared
 statement-returns-4 t c =
     λ h s st. walked-plain (rw (means st (decoded (c .before .before .before .before .before .before .before .node-at .ensures) (c .before .before .before .before .before .node .given .1) (c .before .before .node3 .given .1)))) (λ Γ D g. c .swap .ensures h s st .is _ Γ D (g .names))
 
--- src/lib.rt:443:1
 statement-returns-5 : (t : ℕ) → statement-lts.Need-returns-5 (
   node-at-reads.Asked,
   node-at-reads.Learnt,
@@ -1183,7 +1123,6 @@ unfolding declared
 statement-returns-5 t c =
     λ h s st. walked-plain (rw (means st (decoded (c .before .before .before .before .before .before .before .node-at .ensures) (c .before .before .before .before .before .node .given .1) (c .before .before .node4 .given .1)))) (λ Γ D g. c .conditional-swap .ensures h s st .is _ Γ D (g .names))
 
--- src/lib.rt:443:1
 statement-returns-6 : (t : ℕ) → statement-lts.Need-returns-6 (
   node-at-reads.Asked,
   node-at-reads.Learnt,
@@ -1204,7 +1143,6 @@ statement-returns-6 : (t : ℕ) → statement-lts.Need-returns-6 (
 ) (statement-at t) statement′.Post
 statement-returns-6 t c = c .if-statement .ensures
 
--- src/lib.rt:443:1
 statement-returns-7 : (t : ℕ) → statement-lts.Need-returns-7 (
   node-at-reads.Asked,
   node-at-reads.Learnt,
@@ -1225,7 +1163,6 @@ statement-returns-7 : (t : ℕ) → statement-lts.Need-returns-7 (
 ) (statement-at t) statement′.Post
 statement-returns-7 t c = c .for-statement .ensures
 
--- src/lib.rt:443:1
 statement-returns-8 : (t : ℕ) → statement-lts.Need-returns-8 (
   node-at-reads.Asked,
   node-at-reads.Learnt,
@@ -1248,7 +1185,6 @@ unfolding declared
 statement-returns-8 t c =
     λ h s st. walked-plain (rw (means st (decoded (c .before .before .before .before .before .before .before .node-at .ensures) (c .before .before .before .before .before .node .given .1) (c .before .before .node7 .given .1)))) (λ Γ D g. c .call .ensures h s st .is Γ D (g .names) (g .own))
 
--- src/lib.rt:443:1
 statement-returns-9 : (t : ℕ) → statement-lts.Need-returns-9 (
   node-at-reads.Asked,
   node-at-reads.Learnt,
@@ -1271,7 +1207,6 @@ unfolding declared
 statement-returns-9 t c =
     λ h s st. walked-plain (rw (means st (decoded (c .before .before .before .before .before .before .before .node-at .ensures) (c .before .before .before .before .before .node .given .1) (c .before .before .node8 .given .1)))) (λ Γ D g. c .call2 .ensures h s st .is Γ D (g .names) (g .own))
 
--- src/lib.rt:443:1
 statement-returns-10 : (t : ℕ) → statement-lts.Need-returns-10 (
   node-at-reads.Asked,
   node-at-reads.Learnt,
@@ -1292,7 +1227,6 @@ statement-returns-10 : (t : ℕ) → statement-lts.Need-returns-10 (
 ) (statement-at t) statement′.Post
 statement-returns-10 t c = c .block .ensures
 
--- src/lib.rt:443:1
 statement-returns-11 : (t : ℕ) → statement-lts.Need-returns-11 (
   node-at-reads.Asked,
   node-at-reads.Learnt,

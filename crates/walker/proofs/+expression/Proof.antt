@@ -1,5 +1,5 @@
-use borrow.Author.Needs.{needs}
 -- Children in field order, then the node's own rules; what the node refers to has a larger number.
+use borrow.Author.Needs.{needs}
 use mathlib.Core.Path.{_≡_, refl, sym, ap, _∙_}
 use Prim.Native.Nat.{_-_}
 use native.Mathlib.Omega.{arith}
@@ -31,7 +31,6 @@ abbrev expression-below : ℕ → In 3 expression-kinds.ps
 expression-below t =
     and 3 expression-kinds.ps (falls 3 expression-kinds.ps _<_ μ-expression t) expression.Pre
 
--- src/lib.rt:117:29
 expression-expression-at-requires : (t : ℕ) → expression-lts.Need-expression-at-requires (
   expression-at-reads.Asked,
   expression-at-reads.Learnt,
@@ -48,7 +47,6 @@ expression-expression-at-requires : (t : ℕ) → expression-lts.Need-expression
 ) (expression-at t) expression.Post
 expression-expression-at-requires t c κs = c .before .before .pre .1 .standing .classed
 
--- src/lib.rt:117:21
 expression-enum-known-node : (t : ℕ) → expression-lts.Need-enum-known-node (
   expression-at-reads.Asked,
   expression-at-reads.Learnt,
@@ -65,7 +63,6 @@ expression-enum-known-node : (t : ℕ) → expression-lts.Need-enum-known-node (
 ) (expression-at t) expression.Post
 expression-enum-known-node t c = search needs
 
--- src/lib.rt:118:9
 expression-enum-told : (t : ℕ) → expression-lts.Need-enum-told (
   expression-at-reads.Asked,
   expression-at-reads.Learnt,
@@ -82,7 +79,6 @@ expression-enum-told : (t : ℕ) → expression-lts.Need-enum-told (
 ) (expression-at t) expression.Post
 expression-enum-told t c = search needs
 
--- src/lib.rt:118:9
 expression-returns : (t : ℕ) → expression-lts.Need-returns (
   expression-at-reads.Asked,
   expression-at-reads.Learnt,
@@ -99,7 +95,6 @@ expression-returns : (t : ℕ) → expression-lts.Need-returns (
 ) (expression-at t) expression.Post
 expression-returns t c = λ h s st. absurd (never-refused st (sym (c .before .before .expression-at .ensures) ∙ c .enum-told .given .1))
 
--- src/lib.rt:121:26
 expression-enum-known-node-2 : (t : ℕ) → expression-lts.Need-enum-known-node-2 (
   expression-at-reads.Asked,
   expression-at-reads.Learnt,
@@ -116,7 +111,6 @@ expression-enum-known-node-2 : (t : ℕ) → expression-lts.Need-enum-known-node
 ) (expression-at t) expression.Post
 expression-enum-known-node-2 t c = search needs
 
--- src/lib.rt:122:23
 expression-enum-known-node-3 : (t : ℕ) → expression-lts.Need-enum-known-node-3 (
   expression-at-reads.Asked,
   expression-at-reads.Learnt,
@@ -133,7 +127,6 @@ expression-enum-known-node-3 : (t : ℕ) → expression-lts.Need-enum-known-node
 ) (expression-at t) expression.Post
 expression-enum-known-node-3 t c = search needs
 
--- src/lib.rt:123:32
 expression-enum-known-lvalue : (t : ℕ) → expression-lts.Need-enum-known-lvalue (
   expression-at-reads.Asked,
   expression-at-reads.Learnt,
@@ -150,7 +143,6 @@ expression-enum-known-lvalue : (t : ℕ) → expression-lts.Need-enum-known-lval
 ) (expression-at t) expression.Post
 expression-enum-known-lvalue t c = search needs
 
--- src/lib.rt:123:55
 expression-variable-requires : (t : ℕ) → expression-lts.Need-variable-requires (
   expression-at-reads.Asked,
   expression-at-reads.Learnt,
@@ -167,7 +159,6 @@ expression-variable-requires : (t : ℕ) → expression-lts.Need-variable-requir
 ) (expression-at t) expression.Post
 expression-variable-requires t c κs = search needs
 
--- src/lib.rt:124:31
 expression-enum-known-lvalue-2 : (t : ℕ) → expression-lts.Need-enum-known-lvalue-2 (
   expression-at-reads.Asked,
   expression-at-reads.Learnt,
@@ -184,7 +175,6 @@ expression-enum-known-lvalue-2 : (t : ℕ) → expression-lts.Need-enum-known-lv
 ) (expression-at t) expression.Post
 expression-enum-known-lvalue-2 t c = search needs
 
--- src/lib.rt:125:21
 expression-expression-requires : (t : ℕ) → expression-lts.Need-expression-requires (
   expression-at-reads.Asked,
   expression-at-reads.Learnt,
@@ -202,7 +192,6 @@ expression-expression-requires : (t : ℕ) → expression-lts.Need-expression-re
 expression-expression-requires t c κs =
     let d = decoded-value (c .before .before .before .before .before .before .before .before .before .expression-at .ensures) (c .before .before .before .before .before .before .before .node .given .1) (c .before .before .before .before .node3 .given .1) (c .before .lvalue2 .given .1) in (omega (arith, c .before .before .before .before .before .before .before .before .before .before .before .before .pre .0, behind-index (c .before .before .before .before .before .before .before .before .before .before .before .before .pre .1) d (λ h s r. r .1)), known-index (c .before .before .before .before .before .before .before .before .before .before .before .before .pre .1) d (λ h s r. r .1))
 
--- src/lib.rt:127:21
 expression-returns-2 : (t : ℕ) → expression-lts.Need-returns-2 (
   expression-at-reads.Asked,
   expression-at-reads.Learnt,
@@ -222,7 +211,6 @@ expression-returns-2 t c =
     let d = decoded-value (c .before .before .before .before .before .before .before .before .before .before .before .before .expression-at .ensures) (c .before .before .before .before .before .before .before .before .before .before .node .given .1) (c .before .before .before .before .before .before .before .node3 .given .1) (c .before .before .before .before .lvalue2 .given .1) in
     rw (means st d) (element-stops (c .before .before .expression .ensures h s (standing-child st (refers st d .1)) Γ sc) (c .if1 .taken))
 
--- src/lib.rt:129:17
 expression-element-requires : (t : ℕ) → expression-lts.Need-element-requires (
   expression-at-reads.Asked,
   expression-at-reads.Learnt,
@@ -239,7 +227,6 @@ expression-element-requires : (t : ℕ) → expression-lts.Need-element-requires
 ) (expression-at t) expression.Post
 expression-element-requires t c κs = search needs
 
--- src/lib.rt:131:30
 expression-enum-known-lvalue-3 : (t : ℕ) → expression-lts.Need-enum-known-lvalue-3 (
   expression-at-reads.Asked,
   expression-at-reads.Learnt,
@@ -256,7 +243,6 @@ expression-enum-known-lvalue-3 : (t : ℕ) → expression-lts.Need-enum-known-lv
 ) (expression-at t) expression.Post
 expression-enum-known-lvalue-3 t c = search needs
 
--- src/lib.rt:132:21
 expression-expression-requires-2 : (t : ℕ) → expression-lts.Need-expression-requires-2 (
   expression-at-reads.Asked,
   expression-at-reads.Learnt,
@@ -274,7 +260,6 @@ expression-expression-requires-2 : (t : ℕ) → expression-lts.Need-expression-
 expression-expression-requires-2 t c κs =
     let d = decoded-value (c .before .before .before .before .before .before .before .before .before .expression-at .ensures) (c .before .before .before .before .before .before .before .node .given .1) (c .before .before .before .before .node3 .given .1) (c .before .lvalue3 .given .1) in (omega (arith, c .before .before .before .before .before .before .before .before .before .before .before .before .pre .0, behind-index (c .before .before .before .before .before .before .before .before .before .before .before .before .pre .1) d (λ h s r. r .1)), known-index (c .before .before .before .before .before .before .before .before .before .before .before .before .pre .1) d (λ h s r. r .1))
 
--- src/lib.rt:134:21
 expression-returns-3 : (t : ℕ) → expression-lts.Need-returns-3 (
   expression-at-reads.Asked,
   expression-at-reads.Learnt,
@@ -294,7 +279,6 @@ expression-returns-3 t c =
     let d = decoded-value (c .before .before .before .before .before .before .before .before .before .before .before .before .expression-at .ensures) (c .before .before .before .before .before .before .before .before .before .before .node .given .1) (c .before .before .before .before .before .before .before .node3 .given .1) (c .before .before .before .before .lvalue3 .given .1) in
     rw (means st d) (element-stops (c .before .before .expression2 .ensures h s (standing-child st (refers st d .1)) Γ sc) (c .if2 .taken))
 
--- src/lib.rt:136:17
 expression-element-requires-2 : (t : ℕ) → expression-lts.Need-element-requires-2 (
   expression-at-reads.Asked,
   expression-at-reads.Learnt,
@@ -311,7 +295,6 @@ expression-element-requires-2 : (t : ℕ) → expression-lts.Need-element-requir
 ) (expression-at t) expression.Post
 expression-element-requires-2 t c κs = search needs
 
--- src/lib.rt:139:22
 expression-enum-known-node-4 : (t : ℕ) → expression-lts.Need-enum-known-node-4 (
   expression-at-reads.Asked,
   expression-at-reads.Learnt,
@@ -328,7 +311,6 @@ expression-enum-known-node-4 : (t : ℕ) → expression-lts.Need-enum-known-node
 ) (expression-at t) expression.Post
 expression-enum-known-node-4 t c = search needs
 
--- src/lib.rt:139:36
 expression-size-requires : (t : ℕ) → expression-lts.Need-size-requires (
   expression-at-reads.Asked,
   expression-at-reads.Learnt,
@@ -345,7 +327,6 @@ expression-size-requires : (t : ℕ) → expression-lts.Need-size-requires (
 ) (expression-at t) expression.Post
 expression-size-requires t c κs = search needs
 
--- src/lib.rt:140:24
 expression-enum-known-node-5 : (t : ℕ) → expression-lts.Need-enum-known-node-5 (
   expression-at-reads.Asked,
   expression-at-reads.Learnt,
@@ -362,7 +343,6 @@ expression-enum-known-node-5 : (t : ℕ) → expression-lts.Need-enum-known-node
 ) (expression-at t) expression.Post
 expression-enum-known-node-5 t c = search needs
 
--- src/lib.rt:141:17
 expression-expression-requires-3 : (t : ℕ) → expression-lts.Need-expression-requires-3 (
   expression-at-reads.Asked,
   expression-at-reads.Learnt,
@@ -380,7 +360,6 @@ expression-expression-requires-3 : (t : ℕ) → expression-lts.Need-expression-
 expression-expression-requires-3 t c κs =
     let d = decoded (c .before .before .before .before .before .before .expression-at .ensures) (c .before .before .before .before .node .given .1) (c .before .node5 .given .1) in (omega (arith, c .before .before .before .before .before .before .before .before .before .pre .0, behind (c .before .before .before .before .before .before .before .before .before .pre .1) d (λ h s r. r .0)), known-child (c .before .before .before .before .before .before .before .before .before .pre .1) d (λ h s r. r .0))
 
--- src/lib.rt:143:17
 expression-returns-4 : (t : ℕ) → expression-lts.Need-returns-4 (
   expression-at-reads.Asked,
   expression-at-reads.Learnt,
@@ -400,7 +379,6 @@ expression-returns-4 t c =
     let d = decoded (c .before .before .before .before .before .before .before .before .before .expression-at .ensures) (c .before .before .before .before .before .before .before .node .given .1) (c .before .before .before .before .node5 .given .1) in
     rw (means st d) (left-stops (c .before .before .expression3 .ensures h s (standing-child st (refers st d .0)) Γ sc) (c .if3 .taken))
 
--- src/lib.rt:145:17
 expression-expression-requires-4 : (t : ℕ) → expression-lts.Need-expression-requires-4 (
   expression-at-reads.Asked,
   expression-at-reads.Learnt,
@@ -418,7 +396,6 @@ expression-expression-requires-4 : (t : ℕ) → expression-lts.Need-expression-
 expression-expression-requires-4 t c κs =
     let d = decoded (c .before .before .before .before .before .before .before .before .before .expression-at .ensures) (c .before .before .before .before .before .before .before .node .given .1) (c .before .before .before .before .node5 .given .1) in (omega (arith, c .before .before .before .before .before .before .before .before .before .before .before .before .pre .0, behind (c .before .before .before .before .before .before .before .before .before .before .before .before .pre .1) d (λ h s r. r .1)), known-child (c .before .before .before .before .before .before .before .before .before .before .before .before .pre .1) d (λ h s r. r .1))
 
--- src/lib.rt:147:17
 expression-returns-5 : (t : ℕ) → expression-lts.Need-returns-5 (
   expression-at-reads.Asked,
   expression-at-reads.Learnt,
@@ -439,7 +416,6 @@ expression-returns-5 t c =
     rw (means st d)
     (right-stops (c .before .before .before .before .before .expression3 .ensures h s (standing-child st (refers st d .0)) Γ sc) (c .before .before .before .if3 .left) (c .before .before .expression4 .ensures h s (standing-child st (refers st d .1)) Γ sc) (c .if4 .taken))
 
--- src/lib.rt:149:13
 expression-binary-requires : (t : ℕ) → expression-lts.Need-binary-requires (
   expression-at-reads.Asked,
   expression-at-reads.Learnt,
@@ -456,7 +432,6 @@ expression-binary-requires : (t : ℕ) → expression-lts.Need-binary-requires (
 ) (expression-at t) expression.Post
 expression-binary-requires t c κs = search needs
 
--- src/lib.rt:151:21
 expression-enum-known-node-6 : (t : ℕ) → expression-lts.Need-enum-known-node-6 (
   expression-at-reads.Asked,
   expression-at-reads.Learnt,
@@ -473,7 +448,6 @@ expression-enum-known-node-6 : (t : ℕ) → expression-lts.Need-enum-known-node
 ) (expression-at t) expression.Post
 expression-enum-known-node-6 t c = search needs
 
--- src/lib.rt:151:34
 expression-expression-requires-5 : (t : ℕ) → expression-lts.Need-expression-requires-5 (
   expression-at-reads.Asked,
   expression-at-reads.Learnt,
@@ -491,7 +465,6 @@ expression-expression-requires-5 : (t : ℕ) → expression-lts.Need-expression-
 expression-expression-requires-5 t c κs =
     let d = decoded (c .before .before .before .before .before .before .expression-at .ensures) (c .before .before .before .before .node .given .1) (c .before .node6 .given .1) in (omega (arith, c .before .before .before .before .before .before .before .before .before .pre .0, behind (c .before .before .before .before .before .before .before .before .before .pre .1) d (λ h s r. r)), known-child (c .before .before .before .before .before .before .before .before .before .pre .1) d (λ h s r. r))
 
--- src/lib.rt:112:1
 expression-returns-6 : (t : ℕ) → expression-lts.Need-returns-6 (
   expression-at-reads.Asked,
   expression-at-reads.Learnt,
@@ -509,7 +482,6 @@ expression-returns-6 : (t : ℕ) → expression-lts.Need-returns-6 (
 expression-returns-6 t c =
     λ h s st Γ sc. rw (means st (decoded (c .before .before .before .before .before .before .expression-at .ensures) (c .before .before .before .before .node .given .1) (c .before .node2 .given .1))) (judges-number _ _)
 
--- src/lib.rt:112:1
 expression-returns-7 : (t : ℕ) → expression-lts.Need-returns-7 (
   expression-at-reads.Asked,
   expression-at-reads.Learnt,
@@ -529,7 +501,6 @@ expression-returns-7 t c =
     let d = decoded-value (c .before .before .before .before .before .before .before .before .before .before .expression-at .ensures) (c .before .before .before .before .before .before .before .before .node .given .1) (c .before .before .before .before .before .node3 .given .1) (c .before .before .lvalue .given .1) in
     rw (means st d) (c .variable .ensures .is s Γ sc (name-small st (refers st d)) _)
 
--- src/lib.rt:112:1
 expression-returns-8 : (t : ℕ) → expression-lts.Need-returns-8 (
   expression-at-reads.Asked,
   expression-at-reads.Learnt,
@@ -549,7 +520,6 @@ expression-returns-8 t c =
     let d = decoded-value (c .before .before .before .before .before .before .before .before .before .before .before .before .before .expression-at .ensures) (c .before .before .before .before .before .before .before .before .before .before .before .node .given .1) (c .before .before .before .before .before .before .before .before .node3 .given .1) (c .before .before .before .before .before .lvalue2 .given .1) in
     rw (means st d) (element-goes (c .before .before .before .expression .ensures h s (standing-child st (refers st d .1)) Γ sc) (c .before .if1 .left) (c .element .ensures) sc (name-small st (refers st d .0)))
 
--- src/lib.rt:112:1
 expression-returns-9 : (t : ℕ) → expression-lts.Need-returns-9 (
   expression-at-reads.Asked,
   expression-at-reads.Learnt,
@@ -569,7 +539,6 @@ expression-returns-9 t c =
     let d = decoded-value (c .before .before .before .before .before .before .before .before .before .before .before .before .before .expression-at .ensures) (c .before .before .before .before .before .before .before .before .before .before .before .node .given .1) (c .before .before .before .before .before .before .before .before .node3 .given .1) (c .before .before .before .before .before .lvalue3 .given .1) in
     rw (means st d) (element-goes (c .before .before .before .expression2 .ensures h s (standing-child st (refers st d .1)) Γ sc) (c .before .if2 .left) (c .element2 .ensures) sc (name-small st (refers st d .0)))
 
--- src/lib.rt:112:1
 expression-returns-10 : (t : ℕ) → expression-lts.Need-returns-10 (
   expression-at-reads.Asked,
   expression-at-reads.Learnt,
@@ -587,7 +556,6 @@ expression-returns-10 : (t : ℕ) → expression-lts.Need-returns-10 (
 expression-returns-10 t c =
     λ h s st Γ sc. let d = decoded (c .before .before .before .before .before .before .before .expression-at .ensures) (c .before .before .before .before .before .node .given .1) (c .before .before .node4 .given .1) in rw (means st d) (c .size .ensures .is s Γ sc (name-small st (refers st d)))
 
--- src/lib.rt:112:1
 expression-returns-11 : (t : ℕ) → expression-lts.Need-returns-11 (
   expression-at-reads.Asked,
   expression-at-reads.Learnt,
@@ -608,7 +576,6 @@ expression-returns-11 t c =
     rw (means st d)
     (binary-goes (c .before .before .before .before .before .before .expression3 .ensures h s (standing-child st (refers st d .0)) Γ sc) (c .before .before .before .before .if3 .left) (c .before .before .before .expression4 .ensures h s (standing-child st (refers st d .1)) Γ sc) (c .before .if4 .left) (c .binary .ensures .0) (c .binary .ensures .1))
 
--- src/lib.rt:112:1
 expression-returns-12 : (t : ℕ) → expression-lts.Need-returns-12 (
   expression-at-reads.Asked,
   expression-at-reads.Learnt,
@@ -626,7 +593,6 @@ expression-returns-12 : (t : ℕ) → expression-lts.Need-returns-12 (
 expression-returns-12 t c =
     λ h s st Γ sc. let d = decoded (c .before .before .before .before .before .before .before .expression-at .ensures) (c .before .before .before .before .before .node .given .1) (c .before .before .node6 .given .1) in rw (means st d) (unary-goes (c .expression5 .ensures h s (standing-child st (refers st d)) Γ sc))
 
--- src/lib.rt:112:1
 expression-returns-13 : (t : ℕ) → expression-lts.Need-returns-13 (
   expression-at-reads.Asked,
   expression-at-reads.Learnt,

@@ -10,23 +10,18 @@ use Rattle.walker.proofs.type_of.Reads as type-of-reads
 use Rattle.names.proofs.is_whole.Reads as is-whole-reads
 use Rattle.names.proofs.root_of.Reads as root-of-reads
 
--- src/lib.rt:209:32
 root-of-requires : tie.Need-root-of-requires
 root-of-requires c κs = search needs
 
--- src/lib.rt:209:9
 type-of-requires : tie.Need-type-of-requires
 type-of-requires c κs = search needs
 
--- src/lib.rt:210:9
 type-of-requires-2 : tie.Need-type-of-requires-2
 type-of-requires-2 c κs = search needs
 
--- src/lib.rt:211:9
 is-whole-requires : tie.Need-is-whole-requires
 is-whole-requires c κs = search needs
 
--- src/lib.rt:206:1
 returns : tie.Need-returns
 returns c =
     record { is = λ h s own. argument-fits h s (c .before .before .before .before .before .before .before .before .before .before .before .args .l) (c .before .before .before .before .before .before .before .before .before .root-of .ensures) (c .before .before .before .before .before .before .is-whole .ensures) (c .before .before .before .before .before .before .before .before .type-of .ensures) (c .before .before .before .before .before .before .before .type-of2 .ensures) own }

@@ -9,15 +9,12 @@ use Rattle.walker.proofs.binary.Lts as lts
 use Rattle.walker.proofs.given.Reads as given-reads
 use Rattle.walker.proofs.with_secrecy.Reads as with-secrecy-reads
 
--- src/lib.rt:99:18
 given-requires : tie.Need-given-requires
 given-requires c κs = search needs
 
--- src/lib.rt:99:5
 with-secrecy-requires : tie.Need-with-secrecy-requires
 with-secrecy-requires c κs = search needs
 
--- src/lib.rt:95:1
 returns : tie.Need-returns
 returns c = (c .with-secrecy .ensures .0 ∙ c .before .given .ensures ∙ rw (slow-operator _), c .with-secrecy .ensures .1)
 

@@ -1,5 +1,5 @@
-use Rattle.walker.specs.Nested.{whole-record, names-rules}
 -- The names, then their kinds.
+use Rattle.walker.specs.Nested.{whole-record, names-rules}
 use mathlib.Core.Path.{_≡_, refl, sym, ap, _∙_}
 use mathlib.Core.Bool.{Bool, not}
 use Rattle.rules.specs.Image as rules
@@ -19,31 +19,24 @@ use Rattle.walker.proofs.given.Reads as given-reads
 use Rattle.walker.proofs.no_counters.Reads as no-counters-reads
 use Rattle.walker.proofs.shares_of.Reads as shares-of-reads
 
--- src/lib.rt:436:9
 shares-of-requires : tie.Need-shares-of-requires
 shares-of-requires c κs = search needs
 
--- src/lib.rt:437:9
 can-declare-all-requires : tie.Need-can-declare-all-requires
 can-declare-all-requires c κs = search needs
 
--- src/lib.rt:438:9
 no-counters-requires : tie.Need-no-counters-requires
 no-counters-requires c κs = search needs
 
--- src/lib.rt:439:14
 given-requires : tie.Need-given-requires
 given-requires c κs = search needs
 
--- src/lib.rt:439:34
 given-requires-2 : tie.Need-given-requires-2
 given-requires-2 c κs = search needs
 
--- src/lib.rt:439:5
 first-of-requires : tie.Need-first-of-requires
 first-of-requires c κs = search needs
 
--- src/lib.rt:432:1
 returns : tie.Need-returns
 returns c =
     record {

@@ -13,37 +13,29 @@ use Rattle.walker.proofs.first_of.Reads as first-of-reads
 use Rattle.walker.proofs.given.Reads as given-reads
 use Rattle.names.proofs.arguments_clash.Reads as arguments-clash-reads
 
--- src/lib.rt:338:9
 arguments-requires : tie.Need-arguments-requires
 arguments-requires c κs = call-known (c .before .before .before .pre .0)
 
--- src/lib.rt:340:9
 returns : tie.Need-returns
 returns c =
     λ h s st. record { is = λ Γ D sc procs. called-stops s _ Γ D (c .before .before .before .before .before .before .pre .0) st (c .before .before .arguments .ensures h s (call-chain (c .before .before .before .before .before .before .pre .0) st) Γ sc) (c .if1 .taken) }
 
--- src/lib.rt:342:9
 arguments-clash-requires : tie.Need-arguments-clash-requires
 arguments-clash-requires c κs = call-known (c .before .before .before .before .before .before .pre .0)
 
--- src/lib.rt:343:9
 call-fits-requires : tie.Need-call-fits-requires
 call-fits-requires c κs =
     (call-known (c .before .before .before .before .before .before .before .pre .0), c .before .before .before .before .before .before .before .pre .1)
 
--- src/lib.rt:344:14
 given-requires : tie.Need-given-requires
 given-requires c κs = search needs
 
--- src/lib.rt:344:35
 given-requires-2 : tie.Need-given-requires-2
 given-requires-2 c κs = search needs
 
--- src/lib.rt:344:5
 first-of-requires : tie.Need-first-of-requires
 first-of-requires c κs = search needs
 
--- src/lib.rt:333:1
 returns-2 : tie.Need-returns-2
 returns-2 c =
     λ h s st. record {

@@ -10,19 +10,15 @@ use Rattle.walker.proofs.call_fits.Lts as lts
 use Rattle.walker.proofs.arguments_fit.Reads as arguments-fit-reads
 use Rattle.walker.proofs.shares_of.Reads as shares-of-reads
 
--- src/lib.rt:334:9
 shares-of-requires : tie.Need-shares-of-requires
 shares-of-requires c κs = search needs
 
--- src/lib.rt:335:15
 add-end : tie.Need-add-end
 add-end c = record { fits = (let l = room-of (c .before .shares-of .ensures) (c .before .before .before .before .before .pre .1) in omega arith) }
 
--- src/lib.rt:336:15
 arguments-fit-requires : tie.Need-arguments-fit-requires
 arguments-fit-requires c κs = search needs
 
--- src/lib.rt:329:1
 returns : tie.Need-returns
 returns c = λ h s k own procs. call-fit (c .before .before .shares-of .ensures) s _ _ procs (c .arguments-fit .ensures h s k own)
 

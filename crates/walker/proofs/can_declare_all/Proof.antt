@@ -1,5 +1,5 @@
-use borrow.Author.Needs.{needs}
 -- The rest of the range is still to be tested.
+use borrow.Author.Needs.{needs}
 use mathlib.Core.Path.{_≡_, refl, sym, ap, _∙_}
 use mathlib.Core.List.{List}
 use Prim.Native.Nat.{ℕ, _+_, _-_, _≤_}
@@ -23,37 +23,29 @@ Inv-loop q taken x count i₀ i =
 abbrev μ-loop : tie.MeasureT-loop
 μ-loop q taken x count i₀ i = count - i
 
--- src/lib.rt:374:5
 loop-holds : tie.Need-loop-holds Inv-loop μ-loop
 loop-holds c = (search needs, λ D m. every-begins _ _ _)
 
--- src/lib.rt:375:35
 add-can-declare : tie.Need-add-can-declare Inv-loop μ-loop
 add-can-declare c = search needs
 
--- src/lib.rt:375:13
 can-declare-requires : tie.Need-can-declare-requires Inv-loop μ-loop
 can-declare-requires c κs = search needs
 
--- src/lib.rt:376:13
 returns : tie.Need-returns Inv-loop μ-loop
 returns c =
     λ D m. sym (c .before .before .before .loop .inv .1 D m ∙ every-stops _ _ _ _ (c .before .before .loop-test .taken) (sym (c .before .can-declare .ensures D m (omega (arith, c .before .before .before .before .pre))) ∙ not-true _ (c .if1 .taken)))
 
--- src/lib.rt:378:9
 add-i : tie.Need-add-i Inv-loop μ-loop
 add-i c = search needs
 
--- src/lib.rt:374:5
 loop-less : tie.Need-loop-less Inv-loop μ-loop
 loop-less c = search needs
 
--- src/lib.rt:374:5
 loop-again : tie.Need-loop-again Inv-loop μ-loop
 loop-again c =
     (omega arith, λ D m. c .before .before .before .loop .inv .1 D m ∙ every-on _ _ _ _ (c .before .before .loop-test .taken) (sym (c .before .can-declare .ensures D m (omega (arith, c .before .before .before .before .pre))) ∙ not-false _ (c .if1 .left)))
 
--- src/lib.rt:369:1
 returns-2 : tie.Need-returns-2 Inv-loop μ-loop
 returns-2 c = λ D m. sym (c .before .loop .inv .1 D m ∙ every-ends _ _ _ _ (c .loop-test .left))
 

@@ -21,27 +21,22 @@ use Rattle.walker.proofs.verdict_of.Reads as verdict-of-reads
 use Rattle.names.proofs.occurs.Reads as occurs-reads
 use Rattle.names.proofs.root_of.Reads as root-of-reads
 
--- src/lib.rt:298:9
 expression-requires : tie.Need-expression-requires
 expression-requires c κs = known-child (c .before .before .pre .known) (c .before .before .pre .is) (λ h s r. r .0)
 
--- src/lib.rt:300:9
 verdict-of-requires : tie.Need-verdict-of-requires
 verdict-of-requires c κs = search needs
 
--- src/lib.rt:300:9
 returns : tie.Need-returns
 returns c =
     λ h s st. record {
       is = λ p Γ D sc. let d = c .before .before .before .before .before .before .pre .is in rw (means st d) (c .verdict-of .ensures ∙ condition-stops s p _ Γ D _ _ _ (c .before .before .before .expression .ensures h s (standing-child st (refers st d .0)) Γ sc) (c .before .if1 .taken));
     }
 
--- src/lib.rt:302:9
 place-requires : tie.Need-place-requires
 place-requires c κs =
     known-target (c .before .before .before .before .before .pre .known) (c .before .before .before .before .before .pre .is) (λ h s r. r .1 .0)
 
--- src/lib.rt:304:9
 returns-2 : tie.Need-returns-2
 returns-2 c =
     λ h s st. record {
@@ -51,12 +46,10 @@ returns-2 c =
           (conditional-left-stops s p _ Γ D _ _ _ (c .before .before .before .before .before .expression .ensures h s (standing-child st (refers st d .0)) Γ sc) (c .before .before .before .if1 .left) (c .before .before .place .ensures h s (conditional-left st d) Γ sc) (c .if2 .taken));
     }
 
--- src/lib.rt:306:9
 place-requires-2 : tie.Need-place-requires-2
 place-requires-2 c κs =
     known-target (c .before .before .before .before .before .before .before .before .pre .known) (c .before .before .before .before .before .before .before .before .pre .is) (λ h s r. r .1 .1)
 
--- src/lib.rt:308:9
 returns-3 : tie.Need-returns-3
 returns-3 c =
     λ h s st. record {
@@ -67,67 +60,52 @@ returns-3 c =
           (c .before .before .place2 .ensures h s (conditional-right st d) Γ sc) (c .if3 .taken));
     }
 
--- src/lib.rt:310:9
 root-of-requires : tie.Need-root-of-requires
 root-of-requires c κs = search needs
 
--- src/lib.rt:311:9
 root-of-requires-2 : tie.Need-root-of-requires-2
 root-of-requires-2 c κs = search needs
 
--- src/lib.rt:312:9
 type-of-requires : tie.Need-type-of-requires
 type-of-requires c κs = search needs
 
--- src/lib.rt:313:9
 type-of-requires-2 : tie.Need-type-of-requires-2
 type-of-requires-2 c κs = search needs
 
--- src/lib.rt:314:19
 either-in-index-requires : tie.Need-either-in-index-requires
 either-in-index-requires c κs =
     known-target (c .before .before .before .before .before .before .before .before .before .before .before .before .before .before .before .pre .known) (c .before .before .before .before .before .before .before .before .before .before .before .before .before .before .before .pre .is) (λ h s r. r .1 .0)
 
--- src/lib.rt:314:56
 either-in-index-requires-2 : tie.Need-either-in-index-requires-2
 either-in-index-requires-2 c κs =
     known-target (c .before .before .before .before .before .before .before .before .before .before .before .before .before .before .before .before .pre .known) (c .before .before .before .before .before .before .before .before .before .before .before .before .before .before .before .before .pre .is) (λ h s r. r .1 .1)
 
--- src/lib.rt:315:27
 occurs-requires : tie.Need-occurs-requires
 occurs-requires c κs =
     known-child (c .before .before .before .before .before .before .before .before .before .before .before .before .before .before .before .before .before .pre .known) (c .before .before .before .before .before .before .before .before .before .before .before .before .before .before .before .before .before .pre .is) (λ h s r. r .0)
 
--- src/lib.rt:315:64
 occurs-requires-2 : tie.Need-occurs-requires-2
 occurs-requires-2 c κs =
     known-child (c .before .before .before .before .before .before .before .before .before .before .before .before .before .before .before .before .before .before .pre .known) (c .before .before .before .before .before .before .before .before .before .before .before .before .before .before .before .before .before .before .pre .is) (λ h s r. r .0)
 
--- src/lib.rt:317:26
 given-requires : tie.Need-given-requires
 given-requires c κs = search needs
 
--- src/lib.rt:317:81
 same-type-requires : tie.Need-same-type-requires
 same-type-requires c κs = search needs
 
--- src/lib.rt:317:67
 given-requires-2 : tie.Need-given-requires-2
 given-requires-2 c κs = search needs
 
--- src/lib.rt:317:9
 first-of-requires : tie.Need-first-of-requires
 first-of-requires c κs = search needs
 
--- src/lib.rt:318:14
 given-requires-3 : tie.Need-given-requires-3
 given-requires-3 c κs = search needs
 
--- src/lib.rt:318:5
 first-of-requires-2 : tie.Need-first-of-requires-2
 first-of-requires-2 c κs = search needs
 
--- src/lib.rt:294:1
 returns-4 : tie.Need-returns-4
 returns-4 c =
     λ h s st. record {

@@ -1,5 +1,5 @@
-use Rattle.walker.specs.Nested.{whole-record, names-rules}
 -- The name, then its kind.
+use Rattle.walker.specs.Nested.{whole-record, names-rules}
 use mathlib.Core.Path.{_≡_, refl, sym, ap, _∙_}
 use mathlib.Core.Bool.{Bool, not}
 use Prim.Native.Nat.{ℕ}
@@ -20,31 +20,24 @@ use Rattle.walker.proofs.given.Reads as given-reads
 use Rattle.walker.proofs.shares_of.Reads as shares-of-reads
 use Rattle.walker.proofs.type_of.Reads as type-of-reads
 
--- src/lib.rt:425:9
 shares-of-requires : tie.Need-shares-of-requires
 shares-of-requires c κs = search needs
 
--- src/lib.rt:426:9
 type-of-requires : tie.Need-type-of-requires
 type-of-requires c κs = search needs
 
--- src/lib.rt:427:9
 can-declare-requires : tie.Need-can-declare-requires
 can-declare-requires c κs = search needs
 
--- src/lib.rt:428:14
 given-requires : tie.Need-given-requires
 given-requires c κs = search needs
 
--- src/lib.rt:428:34
 given-requires-2 : tie.Need-given-requires-2
 given-requires-2 c κs = search needs
 
--- src/lib.rt:428:5
 first-of-requires : tie.Need-first-of-requires
 first-of-requires c κs = search needs
 
--- src/lib.rt:422:1
 returns : tie.Need-returns
 returns c =
     record {

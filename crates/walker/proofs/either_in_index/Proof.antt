@@ -7,15 +7,12 @@ use Rattle.walker.proofs.either_in_index.Reads as reads
 use Rattle.walker.proofs.either_in_index.Lts as lts
 use Rattle.names.proofs.index_occurs.Reads as index-occurs-reads
 
--- src/lib.rt:262:5
 index-occurs-requires : tie.Need-index-occurs-requires
 index-occurs-requires c κs = search needs
 
--- src/lib.rt:262:40
 index-occurs-requires-2 : tie.Need-index-occurs-requires-2
 index-occurs-requires-2 c κs = search needs
 
--- src/lib.rt:258:1
 returns : tie.Need-returns
 returns c = λ h s g. share-two _ _ _ (c .before .index-occurs .ensures h s g) (c .index-occurs2 .ensures h s g)
 

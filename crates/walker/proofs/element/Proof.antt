@@ -12,27 +12,21 @@ use Rattle.walker.proofs.named.Reads as named-reads
 use Rattle.walker.proofs.type_of.Reads as type-of-reads
 use Rattle.walker.proofs.with_secrecy.Reads as with-secrecy-reads
 
--- src/lib.rt:79:9
 type-of-requires : tie.Need-type-of-requires
 type-of-requires c κs = search needs
 
--- src/lib.rt:82:27
 named-requires : tie.Need-named-requires
 named-requires c κs = search needs
 
--- src/lib.rt:82:60
 given-requires : tie.Need-given-requires
 given-requires c κs = search needs
 
--- src/lib.rt:82:18
 first-of-requires : tie.Need-first-of-requires
 first-of-requires c κs = search needs
 
--- src/lib.rt:82:5
 with-secrecy-requires : tie.Need-with-secrecy-requires
 with-secrecy-requires c κs = search needs
 
--- src/lib.rt:76:1
 returns : tie.Need-returns
 unfolding elementRefusal
 returns c =

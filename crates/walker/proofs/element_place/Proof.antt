@@ -10,28 +10,22 @@ use Rattle.walker.proofs.element.Reads as element-reads
 use Rattle.walker.proofs.expression.Reads as expression-reads
 use Rattle.walker.proofs.verdict_of.Reads as verdict-of-reads
 
--- src/lib.rt:163:9
 expression-requires : tie.Need-expression-requires
 expression-requires c κs = search needs
 
--- src/lib.rt:165:9
 verdict-of-requires : tie.Need-verdict-of-requires
 verdict-of-requires c κs = search needs
 
--- src/lib.rt:165:9
 returns : tie.Need-returns
 returns c =
     λ h s st Γ sc l. let g = c .before .before .before .expression .ensures h s st Γ sc in c .verdict-of .ensures ∙ stops _ (g .is) (c .before .if1 .taken)
 
--- src/lib.rt:167:16
 element-requires : tie.Need-element-requires
 element-requires c κs = search needs
 
--- src/lib.rt:167:5
 verdict-of-requires-2 : tie.Need-verdict-of-requires-2
 verdict-of-requires-2 c κs = search needs
 
--- src/lib.rt:157:1
 returns-2 : tie.Need-returns-2
 returns-2 c =
     λ h s st Γ sc l. let g = c .before .before .before .before .expression .ensures h s st Γ sc in c .verdict-of2 .ensures ∙ goes (g .is) (c .before .before .if1 .left) (c .before .element .ensures .is s Γ sc l _ (g .type (c .before .before .if1 .left)))

@@ -6,12 +6,10 @@ use Rattle.walker.proofs.first_of.Tie as tie
 use Rattle.walker.proofs.first_of.Reads as reads
 use Rattle.walker.proofs.first_of.Lts as lts
 
--- src/lib.rt:37:1
 returns : tie.Need-returns
 unfolding _then_
 returns c = rw (eq-eqb _ _ (c .if1 .taken))
 
--- src/lib.rt:37:1
 returns-2 : tie.Need-returns-2
 unfolding _then_
 returns-2 c = rw (ne-eqb _ _ (c .if1 .left))

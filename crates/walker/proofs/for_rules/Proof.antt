@@ -14,35 +14,27 @@ use Rattle.names.proofs.changes.Reads as changes-reads
 use Rattle.names.proofs.fresh.Reads as fresh-reads
 use Rattle.names.proofs.mark_variables.Reads as mark-variables-reads
 
--- src/lib.rt:412:20
 fresh-requires : tie.Need-fresh-requires
 fresh-requires c κs = search needs
 
--- src/lib.rt:413:5
 mark-variables-requires : tie.Need-mark-variables-requires
 mark-variables-requires c κs = search needs
 
--- src/lib.rt:414:5
 mark-variables-requires-2 : tie.Need-mark-variables-requires-2
 mark-variables-requires-2 c κs = search needs
 
--- src/lib.rt:415:14
 given-requires : tie.Need-given-requires
 given-requires c κs = search needs
 
--- src/lib.rt:415:49
 changes-requires : tie.Need-changes-requires
 changes-requires c κs = search needs
 
--- src/lib.rt:415:36
 given-requires-2 : tie.Need-given-requires-2
 given-requires-2 c κs = search needs
 
--- src/lib.rt:415:5
 first-of-requires : tie.Need-first-of-requires
 first-of-requires c κs = search needs
 
--- src/lib.rt:408:1
 returns : tie.Need-returns
 returns c =
     record {

@@ -5,12 +5,10 @@ use Rattle.walker.proofs.given.Tie as tie
 use Rattle.walker.proofs.given.Reads as reads
 use Rattle.walker.proofs.given.Lts as lts
 
--- src/lib.rt:26:1
 returns : tie.Need-returns
 unfolding given
 returns c = rw (c .if1 .taken)
 
--- src/lib.rt:26:1
 returns-2 : tie.Need-returns-2
 unfolding given
 returns-2 c = rw (c .if1 .left)

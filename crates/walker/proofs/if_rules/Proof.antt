@@ -14,35 +14,27 @@ use Rattle.names.proofs.changes.Reads as changes-reads
 use Rattle.names.proofs.fresh.Reads as fresh-reads
 use Rattle.names.proofs.mark_variables.Reads as mark-variables-reads
 
--- src/lib.rt:401:20
 fresh-requires : tie.Need-fresh-requires
 fresh-requires c κs = search needs
 
--- src/lib.rt:402:5
 mark-variables-requires : tie.Need-mark-variables-requires
 mark-variables-requires c κs = search needs
 
--- src/lib.rt:403:17
 changes-requires : tie.Need-changes-requires
 changes-requires c κs = search needs
 
--- src/lib.rt:403:53
 changes-requires-2 : tie.Need-changes-requires-2
 changes-requires-2 c κs = search needs
 
--- src/lib.rt:404:14
 given-requires : tie.Need-given-requires
 given-requires c κs = search needs
 
--- src/lib.rt:404:36
 given-requires-2 : tie.Need-given-requires-2
 given-requires-2 c κs = search needs
 
--- src/lib.rt:404:5
 first-of-requires : tie.Need-first-of-requires
 first-of-requires c κs = search needs
 
--- src/lib.rt:397:1
 returns : tie.Need-returns
 returns c =
     record {

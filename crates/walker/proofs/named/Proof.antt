@@ -1,5 +1,5 @@
-use Rattle.rules.specs.Walk.{named}
 -- The mark tells whether the name is in scope.
+use Rattle.rules.specs.Walk.{named}
 use mathlib.Core.Path.{_≡_, refl, sym, ap, _∙_}
 use borrow.Author.Needs.{needs}
 use Rattle.walker.proofs.named.Statement.{statement}
@@ -10,23 +10,18 @@ use Rattle.walker.proofs.first_of.Reads as first-of-reads
 use Rattle.walker.proofs.given.Reads as given-reads
 use Rattle.names.proofs.is_marked.Reads as is-marked-reads
 
--- src/lib.rt:64:20
 is-marked-requires : tie.Need-is-marked-requires
 is-marked-requires c κs = search needs
 
--- src/lib.rt:65:14
 given-requires : tie.Need-given-requires
 given-requires c κs = search needs
 
--- src/lib.rt:65:36
 given-requires-2 : tie.Need-given-requires-2
 given-requires-2 c κs = search needs
 
--- src/lib.rt:65:5
 first-of-requires : tie.Need-first-of-requires
 first-of-requires c κs = search needs
 
--- src/lib.rt:61:1
 returns : tie.Need-returns
 unfolding named
 returns c =

@@ -1,5 +1,5 @@
-use borrow.Author.Needs.{needs}
 -- The rest of the range is still to be tested.
+use borrow.Author.Needs.{needs}
 use mathlib.Core.Path.{_≡_, refl, sym, ap, _∙_}
 use mathlib.Core.Bool.{not}
 use Prim.Native.Nat.{ℕ, _+_, _-_, _≤_}
@@ -23,37 +23,29 @@ Inv-loop variables x count i₀ i =
 abbrev μ-loop : tie.MeasureT-loop
 μ-loop variables x count i₀ i = count - i
 
--- src/lib.rt:386:5
 loop-holds : tie.Need-loop-holds Inv-loop μ-loop
 loop-holds c = (search needs, λ s own. every-begins _ _ _)
 
--- src/lib.rt:387:36
 add-type-of : tie.Need-add-type-of Inv-loop μ-loop
 add-type-of c = search needs
 
--- src/lib.rt:387:13
 type-of-requires : tie.Need-type-of-requires Inv-loop μ-loop
 type-of-requires c κs = search needs
 
--- src/lib.rt:389:13
 returns : tie.Need-returns Inv-loop μ-loop
 returns c =
     λ s own. sym (c .before .before .before .before .loop .inv .1 s own ∙ every-stops _ _ _ _ (c .before .before .before .loop-test .taken) (rw (← c .before .before .type-of .ensures .kind s own, eq-eqb _ _ (c .if1 .taken))))
 
--- src/lib.rt:391:9
 add-i : tie.Need-add-i Inv-loop μ-loop
 add-i c = search needs
 
--- src/lib.rt:386:5
 loop-less : tie.Need-loop-less Inv-loop μ-loop
 loop-less c = search needs
 
--- src/lib.rt:386:5
 loop-again : tie.Need-loop-again Inv-loop μ-loop
 loop-again c =
     (omega arith, λ s own. c .before .before .before .before .loop .inv .1 s own ∙ every-on _ _ _ _ (c .before .before .before .loop-test .taken) (rw (← c .before .before .type-of .ensures .kind s own, ne-eqb _ _ (c .if1 .left))))
 
--- src/lib.rt:381:1
 returns-2 : tie.Need-returns-2 Inv-loop μ-loop
 returns-2 c = λ s own. sym (c .before .loop .inv .1 s own ∙ every-ends _ _ _ _ (c .loop-test .left))
 

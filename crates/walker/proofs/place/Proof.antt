@@ -11,35 +11,27 @@ use Rattle.walker.proofs.element_place.Reads as element-place-reads
 use Rattle.walker.proofs.named.Reads as named-reads
 use Rattle.walker.proofs.type_of.Reads as type-of-reads
 
--- src/lib.rt:177:28
 enum-known-l : tie.Need-enum-known-l
 enum-known-l c = search needs
 
--- src/lib.rt:178:17
 type-of-requires : tie.Need-type-of-requires
 type-of-requires c κs = search needs
 
--- src/lib.rt:179:13
 named-requires : tie.Need-named-requires
 named-requires c κs = search needs
 
--- src/lib.rt:181:27
 enum-known-l-2 : tie.Need-enum-known-l-2
 enum-known-l-2 c = search needs
 
--- src/lib.rt:181:51
 element-place-requires : tie.Need-element-place-requires
 element-place-requires c κs = known-element (rw (c .before .l2 .given .1) at (c .before .before .before .before .before .pre))
 
--- src/lib.rt:182:26
 enum-known-l-3 : tie.Need-enum-known-l-3
 enum-known-l-3 c = search needs
 
--- src/lib.rt:182:50
 element-place-requires-2 : tie.Need-element-place-requires-2
 element-place-requires-2 c κs = known-unsafe (rw (c .before .l3 .given .1) at (c .before .before .before .before .before .pre))
 
--- src/lib.rt:171:1
 returns : tie.Need-returns
 returns c =
     λ h s g Γ sc.
@@ -47,14 +39,12 @@ returns c =
     rw (c .before .before .before .before .before .l .given .1)
     (whole-place _ _ s Γ _ _ _ (rw (c .before .before .before .type-of .ensures .kind s (sc .own))) (c .named .ensures Γ (sc .marks) (root-small k)))
 
--- src/lib.rt:171:1
 returns-2 : tie.Need-returns-2
 returns-2 c =
     λ h s g Γ sc.
     let k = rw (c .before .before .l2 .given .1) at g in
     rw (c .before .before .l2 .given .1) (element-place _ s Γ _ _ _ _ _ (c .element-place .ensures h s (standing-index k (k .names .1)) Γ sc (root-small k)))
 
--- src/lib.rt:171:1
 returns-3 : tie.Need-returns-3
 returns-3 c =
     λ h s g Γ sc.

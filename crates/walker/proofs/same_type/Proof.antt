@@ -7,15 +7,12 @@ use Rattle.walker.proofs.same_type.Reads as reads
 use Rattle.walker.proofs.same_type.Lts as lts
 use Rattle.walker.proofs.type_of.Reads as type-of-reads
 
--- src/lib.rt:269:9
 type-of-requires : tie.Need-type-of-requires
 type-of-requires c κs = search needs
 
--- src/lib.rt:270:9
 type-of-requires-2 : tie.Need-type-of-requires-2
 type-of-requires-2 c κs = search needs
 
--- src/lib.rt:266:1
 returns : tie.Need-returns
 unfolding sameType
 returns c =

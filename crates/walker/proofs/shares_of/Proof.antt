@@ -7,11 +7,9 @@ use Rattle.walker.proofs.shares_of.Reads as reads
 use Rattle.walker.proofs.shares_of.Lts as lts
 use Rattle.records.proofs.procedure_at.Reads as procedure-at-reads
 
--- src/lib.rt:325:5
 procedure-at-requires : tie.Need-procedure-at-requires
 procedure-at-requires c κs = search needs
 
--- src/lib.rt:322:1
 returns : tie.Need-returns
 returns c = shares _ _ _ (c .procedure-at .ensures)
 

@@ -16,20 +16,16 @@ use Rattle.walker.proofs.place.Reads as place-reads
 use Rattle.walker.proofs.same_type.Reads as same-type-reads
 use Rattle.names.proofs.root_of.Reads as root-of-reads
 
--- src/lib.rt:279:9
 place-requires : tie.Need-place-requires
 place-requires c κs = known-target (c .before .before .pre .known) (c .before .before .pre .is) (λ h s r. r .0)
 
--- src/lib.rt:281:9
 returns : tie.Need-returns
 returns c =
     λ h s st. record { is = λ p Γ D sc. rw (means st (c .before .before .before .before .before .pre .is)) (swap-left-stops s p _ Γ D _ _ (c .before .before .place .ensures h s (swap-left st (c .before .before .before .before .before .pre .is)) Γ sc) (c .if1 .taken)) }
 
--- src/lib.rt:283:9
 place-requires-2 : tie.Need-place-requires-2
 place-requires-2 c κs = known-target (c .before .before .before .before .before .pre .known) (c .before .before .before .before .before .pre .is) (λ h s r. r .1)
 
--- src/lib.rt:285:9
 returns-2 : tie.Need-returns-2
 returns-2 c =
     λ h s st. record {
@@ -39,41 +35,32 @@ returns-2 c =
           (swap-right-stops s p _ Γ D _ _ (c .before .before .before .before .before .place .ensures h s (swap-left st d) Γ sc) (c .before .before .before .if1 .left) (c .before .before .place2 .ensures h s (swap-right st d) Γ sc) (c .if2 .taken));
     }
 
--- src/lib.rt:287:9
 root-of-requires : tie.Need-root-of-requires
 root-of-requires c κs = search needs
 
--- src/lib.rt:288:9
 root-of-requires-2 : tie.Need-root-of-requires-2
 root-of-requires-2 c κs = search needs
 
--- src/lib.rt:289:17
 either-in-index-requires : tie.Need-either-in-index-requires
 either-in-index-requires c κs =
     known-target (c .before .before .before .before .before .before .before .before .before .before .pre .known) (c .before .before .before .before .before .before .before .before .before .before .pre .is) (λ h s r. r .0)
 
--- src/lib.rt:289:54
 either-in-index-requires-2 : tie.Need-either-in-index-requires-2
 either-in-index-requires-2 c κs =
     known-target (c .before .before .before .before .before .before .before .before .before .before .before .pre .known) (c .before .before .before .before .before .before .before .before .before .before .before .pre .is) (λ h s r. r .1)
 
--- src/lib.rt:290:14
 given-requires : tie.Need-given-requires
 given-requires c κs = search needs
 
--- src/lib.rt:290:49
 same-type-requires : tie.Need-same-type-requires
 same-type-requires c κs = search needs
 
--- src/lib.rt:290:35
 given-requires-2 : tie.Need-given-requires-2
 given-requires-2 c κs = search needs
 
--- src/lib.rt:290:5
 first-of-requires : tie.Need-first-of-requires
 first-of-requires c κs = search needs
 
--- src/lib.rt:275:1
 returns-3 : tie.Need-returns-3
 returns-3 c =
     λ h s st. record {

@@ -7,11 +7,9 @@ use Rattle.walker.proofs.type_of.Reads as reads
 use Rattle.walker.proofs.type_of.Lts as lts
 use Rattle.records.proofs.variable_at.Reads as variable-at-reads
 
--- src/lib.rt:72:5
 variable-at-requires : tie.Need-variable-at-requires
 variable-at-requires c κs = search needs
 
--- src/lib.rt:69:1
 returns : tie.Need-returns
 returns c = typed _ _ _ (c .variable-at .ensures)
 

@@ -20,24 +20,19 @@ use Rattle.names.proofs.index_occurs.Reads as index-occurs-reads
 use Rattle.names.proofs.occurs.Reads as occurs-reads
 use Rattle.names.proofs.root_of.Reads as root-of-reads
 
--- src/lib.rt:243:9
 place-requires : tie.Need-place-requires
 place-requires c κs = known-target (c .before .before .pre .known) (c .before .before .pre .is) (λ h s r. r .0)
 
--- src/lib.rt:245:9
 returns : tie.Need-returns
 returns c =
     λ h s st. record { is = λ p Γ D sc. rw (means st (c .before .before .before .before .before .pre .is)) (update-target-stops s p _ Γ D _ _ _ (c .before .before .place .ensures h s (update-target st (c .before .before .before .before .before .pre .is)) Γ sc) (c .if1 .taken)) }
 
--- src/lib.rt:247:9
 expression-requires : tie.Need-expression-requires
 expression-requires c κs = known-child (c .before .before .before .before .before .pre .known) (c .before .before .before .before .before .pre .is) (λ h s r. r .1)
 
--- src/lib.rt:249:9
 verdict-of-requires : tie.Need-verdict-of-requires
 verdict-of-requires c κs = search needs
 
--- src/lib.rt:249:9
 returns-2 : tie.Need-returns-2
 returns-2 c =
     λ h s st. record {
@@ -48,37 +43,29 @@ returns-2 c =
           (c .before .before .before .expression .ensures h s (standing-child st (refers st d .1)) Γ sc) (c .before .if2 .taken));
     }
 
--- src/lib.rt:251:9
 root-of-requires : tie.Need-root-of-requires
 root-of-requires c κs = search needs
 
--- src/lib.rt:252:9
 type-of-requires : tie.Need-type-of-requires
 type-of-requires c κs = search needs
 
--- src/lib.rt:253:17
 occurs-requires : tie.Need-occurs-requires
 occurs-requires c κs =
     known-child (c .before .before .before .before .before .before .before .before .before .before .pre .known) (c .before .before .before .before .before .before .before .before .before .before .pre .is) (λ h s r. r .1)
 
--- src/lib.rt:253:50
 index-occurs-requires : tie.Need-index-occurs-requires
 index-occurs-requires c κs =
     known-target (c .before .before .before .before .before .before .before .before .before .before .before .pre .known) (c .before .before .before .before .before .before .before .before .before .before .before .pre .is) (λ h s r. r .0)
 
--- src/lib.rt:254:14
 given-requires : tie.Need-given-requires
 given-requires c κs = search needs
 
--- src/lib.rt:254:58
 given-requires-2 : tie.Need-given-requires-2
 given-requires-2 c κs = search needs
 
--- src/lib.rt:254:5
 first-of-requires : tie.Need-first-of-requires
 first-of-requires c κs = search needs
 
--- src/lib.rt:239:1
 returns-3 : tie.Need-returns-3
 returns-3 c =
     λ h s st. record {
