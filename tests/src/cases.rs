@@ -9,7 +9,7 @@ mod turns;
 mod walk;
 mod walk_types;
 
-use crate::reference::{check, run, Answer, WORK_WORDS};
+use crate::reference::{check, run, Answer, Call, WORK_WORDS};
 use std::fmt::Display;
 
 pub struct CheckCase {
@@ -32,6 +32,13 @@ pub struct Given {
     pub works: usize,
     pub budget: u32,
     pub room: usize,
+}
+
+impl Given {
+    /// A run of it over these slices.
+    pub fn call<'a>(&'a self, store: &'a mut [u64], work: &'a mut [u64], trace: &'a mut [u32]) -> Call<'a> {
+        Call { image: &self.image, inverse: self.inverse, lengths: &self.lengths, store, work, budget: self.budget, trace }
+    }
 }
 
 /// All that a run leaves, `events` being the whole trace however long.
@@ -144,7 +151,7 @@ pub fn lent(given: &Given, room: usize) -> (Answer, Vec<u64>, Vec<u32>) {
     let mut store = given.store.clone();
     let mut work = vec![0x5A5A; given.works];
     let mut trace = vec![7; room];
-    let answer = run(&given.image, given.inverse, &given.lengths, &mut store, &mut work, given.budget, &mut trace);
+    let answer = run(given.call(&mut store, &mut work, &mut trace));
     assert!(work.iter().all(|w| *w == 0), "work is not all 0");
     (answer, store, trace)
 }

@@ -2,7 +2,7 @@
 
 use crate::fuzz::{Implementation, Reference};
 use crate::linked;
-use crate::reference::WORK_WORDS;
+use crate::reference::{Call, WORK_WORDS};
 
 const BUDGET: u32 = 1_000_000;
 
@@ -29,7 +29,8 @@ pub fn run(by: &dyn Implementation, words: &[&str], image: &[u8]) -> Option<Stri
     };
     let lengths = numbers(lengths, 10)?;
     let mut store = numbers(store, 16)?;
-    let answer = by.run(image, inverse, &lengths, &mut store, &mut vec![0; WORK_WORDS], BUDGET, &mut []);
+    let work = &mut vec![0; WORK_WORDS];
+    let answer = by.run(Call { image, inverse, lengths: &lengths, store: &mut store, work, budget: BUDGET, trace: &mut [] });
     let (number, place, steps, entries) = (answer.number, answer.place, answer.steps, answer.entries);
     Some(format!("answer {number} {place} steps {steps} entries {entries}\nstore {}\n", hexadecimals(&store)))
 }

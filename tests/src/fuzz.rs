@@ -8,7 +8,7 @@ pub(crate) mod random;
 
 use crate::cases::{Given, Outcome};
 use crate::image::{assemble, Raw};
-use crate::reference::{self, Answer, WORK_WORDS};
+use crate::reference::{self, Answer, Call, WORK_WORDS};
 use random::Random;
 use std::collections::BTreeMap;
 
@@ -19,17 +19,7 @@ const RUNS_PER_IMAGE: usize = 4;
 pub trait Implementation {
     fn check(&self, image: &[u8]) -> (u64, u64);
 
-    #[allow(clippy::too_many_arguments)]
-    fn run(
-        &self,
-        image: &[u8],
-        inverse: bool,
-        lengths: &[u64],
-        store: &mut [u64],
-        work: &mut [u64],
-        budget: u32,
-        trace: &mut [u32],
-    ) -> Answer;
+    fn run(&self, call: Call) -> Answer;
 }
 
 pub struct Reference;
@@ -39,17 +29,8 @@ impl Implementation for Reference {
         reference::check(image)
     }
 
-    fn run(
-        &self,
-        image: &[u8],
-        inverse: bool,
-        lengths: &[u64],
-        store: &mut [u64],
-        work: &mut [u64],
-        budget: u32,
-        trace: &mut [u32],
-    ) -> Answer {
-        reference::run(image, inverse, lengths, store, work, budget, trace)
+    fn run(&self, call: Call) -> Answer {
+        reference::run(call)
     }
 }
 
@@ -66,7 +47,7 @@ pub fn left_by(implementation: &dyn Implementation, given: &Given) -> Left {
     let mut store = given.store.clone();
     let mut work = vec![u64::MAX; given.works];
     let mut trace = vec![u32::MAX; given.room];
-    let answer = implementation.run(&given.image, given.inverse, &given.lengths, &mut store, &mut work, given.budget, &mut trace);
+    let answer = implementation.run(given.call(&mut store, &mut work, &mut trace));
     Left { answer, store, work, trace }
 }
 

@@ -139,7 +139,7 @@ fn many_calls() -> Vec<u8> {
 #[cfg(test)]
 mod tests {
     use super::*;
-    use crate::reference::{check, run, WORK_WORDS};
+    use crate::reference::{check, run, Call, WORK_WORDS};
 
     #[test]
     fn all_are_accepted() {
@@ -157,7 +157,8 @@ mod tests {
     fn the_deepest_run_takes_every_level() {
         let image = deepest_run();
         assert_eq!(check(&image), (0, 0));
-        let answer = run(&image, true, &[], &mut [], &mut [0; WORK_WORDS], 2_000, &mut []);
+        let work = &mut [0; WORK_WORDS];
+        let answer = run(Call { image: &image, inverse: true, lengths: &[], store: &mut [], work, budget: 2_000, trace: &mut [] });
         assert_eq!((answer.number, answer.steps), (0, u64::from(DEEPEST) * MOST_PROCEDURES as u64));
         assert_eq!(check(&long_call()).0, 11);
     }
@@ -165,7 +166,8 @@ mod tests {
     #[test]
     fn a_loop_takes_four_steps_a_turn() {
         let mut store = [0];
-        let answer = run(&long_loop(25), false, &[1], &mut store, &mut [0; WORK_WORDS], 101, &mut []);
+        let (image, work) = (long_loop(25), &mut [0; WORK_WORDS]);
+        let answer = run(Call { image: &image, inverse: false, lengths: &[1], store: &mut store, work, budget: 101, trace: &mut [] });
         assert_eq!((answer.number, answer.steps, store), (0, 101, [300]));
     }
 }

@@ -1,7 +1,7 @@
 //! The static library, made to answer like the reference. The declarations are those of include/hermes.h.
 
 use crate::fuzz::Implementation;
-use crate::reference::Answer;
+use crate::reference::{Answer, Call};
 
 extern "C" {
     fn hermes_check(image: *const u8, image_len: usize, answer: *mut u64, answer_len: usize);
@@ -35,17 +35,7 @@ pub fn check_into(image: &[u8], answer: &mut [u64]) {
     unsafe { hermes_check(image.as_ptr(), image.len(), answer.as_mut_ptr(), answer.len()) }
 }
 
-#[allow(clippy::too_many_arguments)]
-pub fn run_into(
-    image: &[u8],
-    inverse: bool,
-    lengths: &[u64],
-    store: &mut [u64],
-    work: &mut [u64],
-    budget: u32,
-    trace: &mut [u32],
-    answer: &mut [u64],
-) {
+pub fn run_into(Call { image, inverse, lengths, store, work, budget, trace }: Call, answer: &mut [u64]) {
     // The slices are whole and, by their borrows, do not overlap.
     unsafe {
         hermes_run(
@@ -74,18 +64,9 @@ impl Implementation for Library {
         (answer[0], answer[1])
     }
 
-    fn run(
-        &self,
-        image: &[u8],
-        inverse: bool,
-        lengths: &[u64],
-        store: &mut [u64],
-        work: &mut [u64],
-        budget: u32,
-        trace: &mut [u32],
-    ) -> Answer {
+    fn run(&self, call: Call) -> Answer {
         let mut answer = [STALE; 4];
-        run_into(image, inverse, lengths, store, work, budget, trace, &mut answer);
+        run_into(call, &mut answer);
         let [number, place, steps, entries] = answer;
         Answer { number, place, steps, entries }
     }
@@ -137,7 +118,9 @@ mod tests {
         let whole = [0, 0, 1, 1, 0, 0];
         for length in 0..whole.len() {
             let mut answer = vec![STALE; length];
-            run_into(&image, false, &[], &mut [], &mut [STALE; WORK_WORDS], 1, &mut [], &mut answer);
+            let work = &mut [STALE; WORK_WORDS];
+            let call = Call { image: &image, inverse: false, lengths: &[], store: &mut [], work, budget: 1, trace: &mut [] };
+            run_into(call, &mut answer);
             assert_eq!(answer, whole[..length]);
             answer.fill(STALE);
             check_into(&image[..19], &mut answer);

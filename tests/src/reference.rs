@@ -39,8 +39,19 @@ fn accepted(bytes: &[u8]) -> Result<Image<'_>, Refusal> {
     Ok(image)
 }
 
+/// A run: the image, and all that it is lent.
+pub struct Call<'a> {
+    pub image: &'a [u8],
+    pub inverse: bool,
+    pub lengths: &'a [u64],
+    pub store: &'a mut [u64],
+    pub work: &'a mut [u64],
+    pub budget: u32,
+    pub trace: &'a mut [u32],
+}
+
 /// Runs the last procedure. The store changes only on 0; work and what the trace does not need become 0.
-pub fn run(image: &[u8], inverse: bool, lengths: &[u64], store: &mut [u64], work: &mut [u64], budget: u32, trace: &mut [u32]) -> Answer {
+pub fn run(Call { image, inverse, lengths, store, work, budget, trace }: Call) -> Answer {
     trace.fill(0);
     let works = work.len();
     work.fill(0);
@@ -159,7 +170,8 @@ mod tests {
         let with = |length: usize| {
             let mut store = vec![0; length + 1];
             let lengths = [length as u64, 1];
-            run(&image, false, &lengths, &mut store, &mut vec![1; WORK_WORDS], 9, &mut []).number
+            let work = &mut vec![1; WORK_WORDS];
+            run(Call { image: &image, inverse: false, lengths: &lengths, store: &mut store, work, budget: 9, trace: &mut [] }).number
         };
         assert_eq!([with(4_095), with(4_096), with(4_097)], [0, 22, 20]);
     }

@@ -5,7 +5,7 @@ use bench_tests::ciphers::ciphers;
 use bench_tests::fuzz::{Implementation, Reference};
 use bench_tests::hostile;
 use bench_tests::library::Library;
-use bench_tests::reference::WORK_WORDS;
+use bench_tests::reference::{Call, WORK_WORDS};
 use std::hint::black_box;
 use std::time::Instant;
 
@@ -45,7 +45,8 @@ fn best(mut calls: [&mut dyn FnMut(); 2]) -> [f64; 2] {
 
 fn run_by(by: &dyn Implementation, run: &Run, store: &mut [u64], work: &mut [u64]) -> u64 {
     store.copy_from_slice(&run.store);
-    let answer = by.run(black_box(&run.image), false, &run.lengths, store, work, u32::MAX, &mut []);
+    let image = black_box(&run.image);
+    let answer = by.run(Call { image, inverse: false, lengths: &run.lengths, store, work, budget: u32::MAX, trace: &mut [] });
     assert_eq!(answer.number, 0, "{}", run.name);
     answer.steps
 }

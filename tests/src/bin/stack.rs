@@ -4,7 +4,7 @@
 use bench_tests::fuzz::Implementation;
 use bench_tests::hostile;
 use bench_tests::library::Library;
-use bench_tests::reference::WORK_WORDS;
+use bench_tests::reference::{Call, WORK_WORDS};
 use std::hint::black_box;
 use std::process::{Command, Stdio};
 use std::thread;
@@ -25,7 +25,8 @@ fn runs(name: &str, image: Vec<u8>, inverse: bool) -> Job {
     let direction = if inverse { "inverse" } else { "forward" };
     let job = move || {
         let mut work = vec![0; WORK_WORDS];
-        let answer = Library.run(&image, inverse, &[], &mut [], &mut work, BUDGET, &mut []);
+        let answer =
+            Library.run(Call { image: &image, inverse, lengths: &[], store: &mut [], work: &mut work, budget: BUDGET, trace: &mut [] });
         assert_eq!(answer.number, 0);
     };
     (format!("run {direction}: {name}"), Box::new(job))

@@ -18,18 +18,9 @@ impl Implementation for Spoiled {
         Reference.check(image)
     }
 
-    fn run(
-        &self,
-        image: &[u8],
-        inverse: bool,
-        lengths: &[u64],
-        store: &mut [u64],
-        work: &mut [u64],
-        budget: u32,
-        trace: &mut [u32],
-    ) -> Answer {
+    fn run(&self, Call { image, inverse, lengths, store, work, budget, trace }: Call) -> Answer {
         let lent = Lent { inverse, store: store.to_vec() };
-        let answer = Reference.run(image, inverse, lengths, store, work, budget, trace);
+        let answer = Reference.run(Call { image, inverse, lengths, store, work, budget, trace });
         let mut left = Left { answer, store: store.to_vec(), work: work.to_vec(), trace: trace.to_vec() };
         (self.spoil)(&lent, &mut left);
         store.copy_from_slice(&left.store);
