@@ -2,12 +2,15 @@
 """against_definitions.py [CASES]: hold the definitions of crates/rules to the cases of the Rust program beside this file.
 
 Each case becomes one equation that antt has to compute: what `verdict` or `run` gives is what the Rust program printed.
+One more equation says that the image of TEA in crates/laws has the bytes of samples/tea.image.
 CASES is a file with the output of `cargo run --release --bin cases`; without it the program is run. A case that differs fails by its name.
-The made-up crate stands in a temporary folder, beside a copy of crates/rules."""
+The made-up crate stands in a temporary folder, beside copies of crates/rules and of the crates that laws needs."""
 import os, re, shutil, subprocess, sys, tempfile, time
 
 HERE = os.path.dirname(os.path.abspath(__file__))
-RULES = os.path.join(HERE, '..', 'crates', 'rules')
+TOP = os.path.join(HERE, '..')
+RULES = os.path.join(TOP, 'crates', 'rules')
+CRATES = {'rules': '', 'numbers': 'rules', 'laws': 'rules numbers', 'cases': 'rules laws'}
 PER_FILE = 30
 HEAD = '''use Prim.Native.Nat.{ℕ, zero, suc, _+_, _-_, _*_, _/_, _%_, _^_}
 use mathlib.Core.List.{List, [], _∷_, _++_}
@@ -37,6 +40,12 @@ def equation(fields):
              f'store = {numbers(store)}; works = {works}; budget = {budget}; room = {room} }}')
     return f'run ({given}) ≡ record {{ number = {number}; place = {place}; steps = {steps}; store = {numbers(after)}; events = {numbers(events)} }}'
 
+def tea_equation():
+    with open(os.path.join(TOP, 'samples', 'tea.image'), 'rb') as f:
+        image = ' '.join(map(str, f.read()))
+    uses = 'use mathlib.Core.List.{[], _∷_}\nuse mathlib.Core.Path.{_≡_, refl}\nuse Rattle.laws.specs.Tea.{tea}\n'
+    return f'{uses}\nsameTea : tea ≡ {numbers(image)}\nunfolding tea\nsameTea = refl\n'
+
 def write_crate(repository, cases):
     names = unfoldable()
     uses = HEAD + ''.join(f'use Rattle.rules.specs.{m}.{{{", ".join(ns)}}}\n' for m, ns in names.items())
@@ -46,7 +55,9 @@ def write_crate(repository, cases):
     os.makedirs(os.path.join(crate, 'src'))
     with open(os.path.join(crate, 'src', 'lib.rt'), 'w') as f:
         f.write('// no code\n')
-    modules = []
+    modules = ['Tea']
+    with open(os.path.join(crate, 'specs', 'Tea.antt'), 'w') as f:
+        f.write(tea_equation())
     for start in range(0, len(cases), PER_FILE):
         modules.append(f'Part{start // PER_FILE}')
         with open(os.path.join(crate, 'specs', modules[-1] + '.antt'), 'w') as f:
@@ -66,16 +77,19 @@ def main():
     cases = [line.split(' | ') for line in lines if line.strip()]
     start, repository = time.time(), tempfile.mkdtemp(prefix='definitions-')
     try:
-        shutil.copytree(RULES, os.path.join(repository, 'crates', 'rules'))
+        for crate in list(CRATES)[:-1]:
+            shutil.copytree(os.path.join(TOP, 'crates', crate), os.path.join(repository, 'crates', crate))
         with open(os.path.join(repository, 'crates.txt'), 'w') as f:
-            f.write('rules:\ncases: rules\n')
+            f.write(''.join(f'{crate}: {below}\n' for crate, below in CRATES.items()))
         write_crate(repository, cases)
         ran = subprocess.run(['rt', 'check'], cwd=repository, capture_output=True, text=True)
         out = ran.stdout + ran.stderr
         wrong = sorted({int(k) for k in re.findall(r'error: `case(\d+)`', out)})
         for k in wrong:
             print('differs:', cases[k][0])
-        if ran.returncode != 0 and not wrong:
+        if 'error: `sameTea`' in out:
+            print('differs: the bytes of TEA in crates/laws and in samples/tea.image')
+        elif ran.returncode != 0 and not wrong:
             print(out[-4000:])
         print(f'{len(cases) - len(wrong)} cases agree, {len(wrong)} differ ({time.time() - start:.0f} s)')
         return 1 if wrong or ran.returncode != 0 else 0
