@@ -1,5 +1,6 @@
 // The cycle of executors: statement, list of statements, loop and called body, by node number, in both directions.
 // A statement begins outside the cycle: its step, its operands and its own cells. What is left of it is one of a set of cases.
+// Slices are handed on whole, as `&s[..]`: a slice copied as it stands is a pair in memory, and waits there.
 use expressions::{Run, after};
 use records::{Decoded, Node};
 ghost use mathlib.Core.Path.{_≡_};

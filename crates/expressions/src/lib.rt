@@ -1,5 +1,6 @@
 // The leaves of a run: trace, steps, expressions, L-values, arguments, and the statements that hold no statement.
 // Cells and rows are read and written totally: what stands past the end reads as 0, and a write there changes nothing.
+// Slices are handed on whole, as `&s[..]`: a slice copied as it stands is a pair in memory, and waits there.
 use records::{Decoded, LValue, Node, Target};
 ghost use mathlib.Core.Path.{_≡_};
 ghost use Prim.Native.Nat.{ℕ, _+_, _-_, _*_, _≤_, _<_};

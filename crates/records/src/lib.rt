@@ -1,5 +1,6 @@
 // The header and the four parts of an image, read where they stand, and a node taken apart into its case.
 // Every reader is total: what stands past the end of a part reads as 0.
+// Slices are handed on whole, as `&s[..]`: a slice copied as it stands is a pair in memory, and waits there.
 ghost use mathlib.Core.Path.{_≡_};
 ghost use mathlib.Core.Bool.{true};
 ghost use Prim.Native.Nat.{_+_, _*_, _<_};
