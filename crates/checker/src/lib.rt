@@ -1,5 +1,7 @@
 // The check of an image: verdicts 1 to 6, then the walk of its procedures, 7 to 13.
 // Slices are handed on whole, as `&s[..]`: a slice copied as it stands is a pair in memory, and waits there.
+#![tactic(auto)]
+
 ghost use Rattle.std.specs.Prelude.{◌≡◌, ◌+◌, ◌-◌, ◌≤◌, ◌<◌, length};
 ghost use Rattle.rules.specs.Form.{search};
 ghost use Rattle.rules.specs.Image.{header_of, parts_of, procedure_of};

@@ -1,6 +1,8 @@
 // The cycle of executors: statement, list of statements, loop and called body, by node number, in both directions.
 // A statement begins outside the cycle: its step, its operands and its own cells. What is left of it is one of a set of cases.
 // Slices are handed on whole, as `&s[..]`: a slice copied as it stands is a pair in memory, and waits there.
+#![tactic(auto)]
+
 ghost use Rattle.std.specs.Prelude.{◌≡◌, ℕ, ◌<◌};
 ghost use Rattle.rules.specs.Image.{is_expression};
 ghost use Rattle.expressions.specs.Relations.{Readable, Chained, direction_of};
@@ -13,7 +15,7 @@ use expressions::{Run, after};
 use records::{Decoded, Node};
 
 // A for whose bounds are known: its node, its counter's cell, both bounds in the order of the direction, its body.
-#[derive(Drop)]
+#[derive(Clone, Copy)]
 pub struct Counting {
     pub node: u16,
     pub cell: u64,
@@ -23,7 +25,7 @@ pub struct Counting {
 }
 
 // What is left to do of a statement whose step is taken, whose operands are worked out and whose own cells are changed.
-#[derive(Drop)]
+#[derive(Clone, Copy)]
 pub enum Rest {
     Finished(Run),
     Branch(u16, Run),

@@ -1,6 +1,8 @@
 // The leaves of a run: trace, steps, expressions, L-values, arguments, and the statements that hold no statement.
 // Cells and rows are read and written totally: what stands past the end reads as 0, and a write there changes nothing.
 // Slices are handed on whole, as `&s[..]`: a slice copied as it stands is a pair in memory, and waits there.
+#![tactic(auto)]
+
 ghost use Rattle.std.specs.Prelude.{◌≡◌, ℕ, ◌+◌, ◌-◌, ◌*◌, ◌≤◌, ◌<◌, List, [], ◌∷◌, cond, get_or, set, length};
 ghost use Rattle.rules.specs.Words.{complement, operate1, update_of, binary_of, changed_by, going};
 ghost use Rattle.rules.specs.Image.{missing, Header, Parts, is_expression, variable_of, constant_of, is_constant};
@@ -15,7 +17,7 @@ ghost use Rattle.expressions.specs.Commands.{updating, exchanging, exchanging_if
 use records::{Decoded, LValue, Node, Target};
 
 // How far a run has come: its refusal, which is 0 while it goes on, the place, the steps that are left, the trace's entries.
-#[derive(Drop)]
+#[derive(Clone, Copy)]
 pub struct Run {
     pub number: u16,
     pub place: u16,
@@ -24,7 +26,7 @@ pub struct Run {
 }
 
 // What is worked out: a value, or a refusal and its place where the number is not 0; and the trace's entries after it.
-#[derive(Drop)]
+#[derive(Clone, Copy)]
 pub struct Valued {
     pub value: u64,
     pub number: u16,

@@ -1,4 +1,6 @@
 // The C boundary. Each slice passes as a pointer, then a length; nothing needs to be checked first, and slices must not overlap.
+#![tactic(auto)]
+
 ghost use Rattle.std.specs.Prelude.{◌≡◌, [], ◌∷◌, length};
 ghost use Rattle.rules.specs.Run.{fitted};
 ghost use Rattle.rules.specs.Promised.{CheckedInto, RanInto};

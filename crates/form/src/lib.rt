@@ -1,5 +1,7 @@
 // Verdicts 1 to 6: the layout, the records, the table of fields, the tree.
 // Slices are handed on whole, as `&s[..]`: a slice copied as it stands is a pair in memory, and waits there.
+#![tactic(auto)]
+
 ghost use Rattle.std.specs.Prelude.{◌≡◌, not, ◌&&◌, ◌+◌, ◌*◌, ◌≤◌, eqb, length};
 ghost use Rattle.rules.specs.Image.{header_of, parts_of};
 ghost use Rattle.rules.specs.Form.{◌then◌, given, search, format_refusal, counts_fit, parts_follow, layout_refusal, procedure_fits, owner, is_parameter, extra_fits, size_fits, variable_fits, refers, field_fits, operator_fits, record_fits};

@@ -1,1 +1,2 @@
 // Theorems over the definitions of rules: they stand in specs/.
+#![tactic(auto)]

@@ -1,5 +1,7 @@
 // Names as marks, and the names that an expression or a statement holds.
 // Slices are handed on whole, as `&s[..]`: a slice copied as it stands is a pair in memory, and waits there.
+#![tactic(auto)]
+
 ghost use Rattle.std.specs.Prelude.{◌≡◌, List, [], ◌∷◌, ◌++◌, ℕ, ◌+◌, ◌≤◌, ◌<◌, ◌||◌};
 ghost use Rattle.rules.specs.Image.{is_expression, is_statement, is_lvalue};
 ghost use Rattle.rules.specs.Tree.{member, range, variables, index, roots, indices, changed};

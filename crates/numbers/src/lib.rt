@@ -1,1 +1,2 @@
 // Laws of words, over the definitions of rules: they stand in specs/.
+#![tactic(auto)]

@@ -1,5 +1,7 @@
 // "one small reader keeps the image and its four offsets together": thin functions over it that read a record,
 // and plain functions above it for callers that hold nothing but an image.
+#![tactic(auto)]
+
 ghost use Rattle.std.specs.Prelude.{◌≡◌, ◌&&◌, leb};
 ghost use Rattle.rules.specs.Image.{part, parts_of, procedure_of, variable_of, node_of, constant_of};
 ghost use Rattle.records.specs.Records.{as_procedure, as_variable, as_node};
@@ -9,7 +11,7 @@ ghost use Rattle.reader.specs.Parts.{offsets_of, parts_by};
 use records::{Procedure, RawNode, Variable};
 
 // "offsets of these four parts in that order"
-#[derive(Drop)]
+#[derive(Clone, Copy)]
 pub struct Offsets {
     pub procedures: u16,
     pub variables: u16,
@@ -76,7 +78,7 @@ fn constant_in(image: &[u8], o: Offsets, k: u16) -> u64
 }
 
 // An image and the offsets of its four parts. No function over it does more than hand both to a covered one.
-#[derive(Drop)]
+#[derive(Clone, Copy)]
 pub struct Reader<'a> {
     pub image: &'a [u8],
     pub offsets: Offsets,
@@ -140,7 +142,7 @@ pub fn node_of(image: &[u8], n: u16) -> RawNode
 }
 
 // The record to look at after a refusal.
-#[derive(Drop)]
+#[derive(Clone, Copy)]
 pub enum Blamed {
     Procedure(Procedure),
     Variable(Variable),

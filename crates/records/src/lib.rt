@@ -1,6 +1,8 @@
 // The header and the four parts of an image, read where they stand, and a node taken apart into its case.
 // Every reader is total: what stands past the end of a part reads as 0.
 // Slices are handed on whole, as `&s[..]`: a slice copied as it stands is a pair in memory, and waits there.
+#![tactic(auto)]
+
 ghost use Rattle.std.specs.Prelude.{◌≡◌, true, ◌+◌, ◌*◌, ◌<◌, get_or, length};
 ghost use Rattle.rules.specs.Image.{le16, le32, le64, header_of, procedure_of, variable_of, node_of, constant_of, is_expression};
 ghost use Rattle.rules.specs.Form.{class_of};
@@ -8,7 +10,7 @@ ghost use Rattle.records.specs.Records.{as_header, as_procedure, as_variable, as
 ghost use Rattle.records.specs.Decode.{lvalue_by, lvalue_at, update_by, swap_by, conditional_swap_by, expression_by, decoded_by, decoded_at, argument_at};
 
 // "Answer: a number and a place, 0 and 0 when accepted."
-#[derive(Drop)]
+#[derive(Clone, Copy)]
 pub struct Verdict {
     pub number: u16,
     pub place: u16,
@@ -86,7 +88,7 @@ fn u64_inside(s: &[u8], at: usize) -> u64
     low + high * 4294967296
 }
 
-#[derive(Drop)]
+#[derive(Clone, Copy)]
 pub struct Header {
     pub format: u16,
     pub procedures: u16,
@@ -118,7 +120,7 @@ pub fn header_of(image: &[u8]) -> Header
     }
 }
 
-#[derive(Drop)]
+#[derive(Clone, Copy)]
 pub struct Procedure {
     pub first: u16,
     pub count: u16,
@@ -139,7 +141,7 @@ pub fn procedure_at(part: &[u8], p: u16) -> Procedure
     }
 }
 
-#[derive(Drop)]
+#[derive(Clone, Copy)]
 pub struct Variable {
     pub kind: u8,
     pub secrecy: u8,
@@ -174,7 +176,7 @@ pub fn constant_at(part: &[u8], k: u16) -> u64
 }
 
 // A node's record, field by field.
-#[derive(Drop)]
+#[derive(Clone, Copy)]
 pub struct RawNode {
     pub kind: u8,
     pub operator: u8,
@@ -229,7 +231,7 @@ pub fn record_at(nodes: &[u8], n: u16) -> RawNode
 }
 
 // As much of a node's record as an expression or L-value has.
-#[derive(Drop)]
+#[derive(Clone, Copy)]
 pub struct Head {
     pub kind: u8,
     pub operator: u8,
@@ -287,7 +289,7 @@ fn head_of(r: RawNode) -> Head
 }
 
 // "Kinds 21 to 23 are L-values": the node, the variable that it names, and the index's node.
-#[derive(Drop)]
+#[derive(Clone, Copy)]
 pub enum LValue {
     Variable { node: u16, variable: u16 },
     Element { node: u16, array: u16, index: u16 },
@@ -295,7 +297,7 @@ pub enum LValue {
 }
 
 // What a node is that ought to be an L-value.
-#[derive(Drop)]
+#[derive(Clone, Copy)]
 pub enum Target {
     Place(LValue),
     Other,
@@ -303,7 +305,7 @@ pub enum Target {
 
 // A node is one of these cases, each with its own fields. An L-value is a value where an expression is
 // asked for, and an argument, with what follows it, where a call's arguments are.
-#[derive(Drop)]
+#[derive(Clone, Copy)]
 pub enum Node {
     Empty,
     Update {
@@ -367,7 +369,7 @@ pub enum Node {
     },
 }
 
-#[derive(Drop)]
+#[derive(Clone, Copy)]
 pub enum Decoded {
     Is(Node),
     Refused { number: u8, place: u16 },
@@ -633,7 +635,7 @@ const FIELDS: [[u8; 6]; 27] = [
 ];
 
 // What the fields of a node are.
-#[derive(Drop)]
+#[derive(Clone, Copy)]
 pub struct Classes {
     pub operator: u8,
     pub a: u8,

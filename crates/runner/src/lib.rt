@@ -1,5 +1,7 @@
 // The run of an image: everything is cleared first, then checked, then run in the work words; the store changes only where nothing
 // was refused, and the work words are 0 afterwards, whatever the answer is.
+#![tactic(auto)]
+
 ghost use Rattle.std.specs.Prelude.{◌≡◌, ◌-◌, ◌≤◌, length, replicate};
 ghost use Rattle.rules.specs.Image.{header_of};
 ghost use Rattle.rules.specs.Check.{verdict};
@@ -12,7 +14,7 @@ use expressions::Run;
 use records::{Header, Verdict};
 
 // "Answer: number, place, steps, trace entries."
-#[derive(Drop)]
+#[derive(Clone, Copy)]
 pub struct Answer {
     pub number: u16,
     pub place: u16,

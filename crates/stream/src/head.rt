@@ -3,7 +3,7 @@ ghost use Rattle.std.specs.Prelude.{◌≡◌, length};
 ghost use Rattle.stream.specs.Heads.{head_of, size_of, fitting, next_by, next_of};
 
 // How long the image and the name are, the direction (1 is inverse), how many lengths, cells, work words and trace entries there are, and the budget.
-#[derive(Drop)]
+#[derive(Clone, Copy)]
 pub struct Head {
     pub image: u16,
     pub name: u16,
@@ -15,7 +15,7 @@ pub struct Head {
     pub budget: u64,
 }
 
-#[derive(Drop)]
+#[derive(Clone, Copy)]
 pub enum Next {
     Run(Head),
     End,

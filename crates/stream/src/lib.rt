@@ -1,5 +1,7 @@
 // Runs as they stand in a stream: each is read, run by `runner::run`, and told in one line.
 // Numbers are little-endian. A run is a head of 22 bytes, then its name, the image, the lengths and the store; two zero bytes end the stream.
+#![tactic(auto)]
+
 mod head;
 mod lists;
 mod print;

@@ -1,5 +1,7 @@
 // Verdict 6, "no tree": every node is referred to exactly once, and stands where it may.
 // Slices are handed on whole, as `&s[..]`: a slice copied as it stands is a pair in memory, and waits there.
+#![tactic(auto)]
+
 ghost use Rattle.std.specs.Prelude.{◌≡◌, not, cond, ◌+◌, ◌≤◌, ◌<◌, eqb, length, get_or, set, replicate};
 ghost use Rattle.rules.specs.Form.{given, search};
 ghost use Rattle.rules.specs.Tree.{is_reference, reference, references_of, node_references, bodies, reference_refusal, marked, handed, handed_on, handed_down, place_refusal, tree_refusal};

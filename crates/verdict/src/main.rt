@@ -1,5 +1,7 @@
 // The verdict program: an image on standard input, one line out, `verdict`, number and place.
 // The buffer is one byte longer than the longest image, so that a longer input is seen to be too long.
+#![tactic(auto)]
+
 use libc::STDOUT_FILENO;
 
 fn main() {

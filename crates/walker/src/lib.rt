@@ -1,5 +1,7 @@
 // Verdicts 7 to 13: the walk.
 // Slices are handed on whole, as `&s[..]`: a slice copied as it stands is a pair in memory, and waits there.
+#![tactic(auto)]
+
 ghost use Rattle.std.specs.Prelude.{◌≡◌, List, [], ◌∷◌, ◌++◌, not, ◌||◌, ◌&&◌, ℕ, ◌+◌, ◌-◌, ◌≤◌, ◌<◌};
 ghost use Rattle.rules.specs.Words.{binary_of};
 ghost use Rattle.rules.specs.Image.{Parts, is_expression, is_statement, is_lvalue, is_array, is_secret, is_counter};
@@ -22,7 +24,7 @@ ghost use Rattle.records.specs.declared.Decoded.TheVariants.{Is};
 use records::{Decoded, LValue, Node, Procedure, Target, Variable, Verdict};
 
 // An expression's refusal, and whether it is secret.
-#[derive(Drop)]
+#[derive(Clone, Copy)]
 pub struct Judged {
     pub number: u16,
     pub place: u16,

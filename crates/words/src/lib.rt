@@ -1,5 +1,7 @@
 // The word arithmetic of a run: what each operator of an expression gives, what each update leaves in a cell of z bits, and a
 // conditional exchange. Each contract is one equation with the definition of `rules`, by the operator's name there.
+#![tactic(auto)]
+
 ghost use Rattle.std.specs.Prelude.{◌≡◌, ◌%◌, ◌^◌, ◌<◌, ◌≤◌, true, ◌&&◌, ◌==◌};
 ghost use Rattle.rules.specs.Words.{plus, minus, times, quotient, remainder, conjunction, disjunction, exclusive};
 ghost use Rattle.rules.specs.Words.{equal, unequal, below, above, at_most, at_least, shift_left, shift_right};
@@ -273,7 +275,7 @@ pub fn undoing_op(op: u8) -> u8
 
 // A conditional exchange
 
-#[derive(Drop)]
+#[derive(Clone, Copy)]
 pub struct Pair {
     pub first: u64,
     pub second: u64,
