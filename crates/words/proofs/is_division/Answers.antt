@@ -1,8 +1,8 @@
 -- Of the operators, the fourth and the fifth divide, and none of those that follow.
 use Rattle.std.proofs.Common.{◌≡◌, ℕ, zero, suc, ◌-◌, false, List, [], ◌∷◌, get_or, sym, refl, arith}
 use Rattle.rules.specs.Words.{Binary, plus, conjunction, disjunction, exclusive, equal, unequal, below, above, at_most, at_least, shift_left, shift_right, binaries, divides}
-use Rattle.words.proofs.is_division.Statement.{statement}
-use Rattle.words.proofs.is_division.Tie as tie
+
+use Rattle.words.proofs.is_division.Goals as goal
 
 -- Where no operator of a list divides, none at any place does.
 abbrev NoneDivides : List Binary → Type 0
@@ -27,17 +27,13 @@ neither (suc (suc (suc (suc (suc k))))) fourth fifth = not_at
     (refl, (refl, (refl, (refl, (refl, (refl, (refl, (refl, (refl, (refl, (refl, tt)))))))))))
     k
 
-returns : tie.Need-returns
+pub returns-in-4 : goal.returns-in-4
 unfolding divides
-returns c = rw c.match.keys1 refl
+returns-in-4 c = rw c.in-4.is refl
 
-returns-2 : tie.Need-returns-2
+pub returns-in-5 : goal.returns-in-5
 unfolding divides
-returns-2 c = rw c.match.keys2 refl
+returns-in-5 c = rw c.in-5.is refl
 
-returns-3 : tie.Need-returns-3
-returns-3 c =
-    sym (neither (c.before.args.op - 1) (λ e. c.match.rest.0.1 (omega arith)) (λ e. c.match.rest.1 (omega arith)))
-
-pub is-division-spec : {M : Type 1} → statement M
-is-division-spec = tie.close (tie.spec returns returns-2 returns-3)
+pub returns-in_default : goal.returns-in_default
+returns-in_default c = sym (neither (c.args.op - 1) (λ e. c.in_default.in_default-own.rest.0.1 (omega arith)) (λ e. c.in_default.in_default-own.rest.1 (omega arith)))

@@ -1,0 +1,9 @@
+-- The machine's remainder is the definition's.
+use Rattle.std.proofs.Common.{refl, rules}
+use Rattle.rules.specs.Words.{operate}
+
+use Rattle.words.proofs.remainder.Goals as goal
+
+pub returns : goal.returns
+unfolding operate
+returns c = refl
