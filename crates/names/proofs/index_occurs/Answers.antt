@@ -1,0 +1,19 @@
+-- A name by itself has no index.
+use Rattle.rules.specs.Tree.{index, member}
+use Rattle.names.specs.Chains.{standing_index, known_element, known_unsafe}
+use borrow.Author.Rules.{rules}
+use Rattle.names.proofs.index_occurs.Lts as lts
+
+use Rattle.names.proofs.index_occurs.Goals as goal
+
+pub returns-in-Variable : goal.returns-in-Variable
+unfolding index member
+returns-in-Variable c = λ h s g. rw c.in-Variable.is
+
+pub returns-in-Element : goal.returns-in-Element
+unfolding index
+returns-in-Element c = λ h s g. let k = rw c.in-Element.is at g in rw c.in-Element.is (c.occurs.ensures h s (standing_index k k.names.1))
+
+pub returns-in-Unsafe : goal.returns-in-Unsafe
+unfolding index
+returns-in-Unsafe c = λ h s g. let k = rw c.in-Unsafe.is at g in rw c.in-Unsafe.is (c.occurs-in-Unsafe.ensures h s (standing_index k k.names.1))
