@@ -1,7 +1,7 @@
 -- Marks that are handed down: what the bodies begin with, and that no mark outgrows the nodes passed.
 use Rattle.std.specs.Prelude.{◌≡◌, refl, List, [], ◌∷◌, ◌++◌, Bool, true, false, not, cond, ◌&&◌, ◌||◌, ◌⊎◌, ℕ, zero, suc, ◌+◌, ◌≤◌, ◌<◌, eqb, leb, ltb, length, get_or, take, set, replicate}
 use Rattle.std.proofs.Common.{sym, ap, ◌∙◌, inl, inr, ⊎_elim, arith, eqb-true, ltb-true, ltb-false, length-set, get_or-set_same, get_or-set_other}
-use Rattle.std.proofs.Math.Bool.{or_true, or_false}
+use Rattle.std.proofs.Math.Bool.{or-true, or-false}
 use Rattle.std.proofs.lemmas.Bool.{eqb-false}
 use Rattle.std.proofs.lemmas.List.{length-replicate}
 use Rattle.std.proofs.Math.Seq.{set_out}
@@ -16,7 +16,7 @@ use Rattle.tree.specs.Parts.{tree_parts}
 -- After the bodies are marked, a mark tells whether a node is one.
 pub marked-member : (ms marks : List ℕ) (n : ℕ) → n < length marks → eqb (get_or (marked 1 ms marks) n 0) 1 ≡ eqb (get_or marks n 0) 1 || member n ms
 unfolding marked member
-marked-member [] marks n l = sym (or_false (eqb (get_or marks n 0) 1))
+marked-member [] marks n l = sym (or-false (eqb (get_or marks n 0) 1))
 marked-member (m ∷ ms) marks n l =
     let long : n < length (set marks m 1) = simp length-set l in
     marked-member ms (set marks m 1) n long
@@ -24,7 +24,7 @@ marked-member (m ∷ ms) marks n l =
     (λ t.
     let here : m ≡ n = sym (eqb-true n m t) in
     let same : get_or (set marks m 1) n 0 ≡ 1 = rw here (get_or-set_same marks n 1 0 l) in
-    rw (same, t) (sym (or_true (eqb (get_or marks n 0) 1))))
+    rw (same, t) (sym (or-true (eqb (get_or marks n 0) 1))))
     (λ f. rw (get_or-set_other marks m n 1 0 (eqb-false n m f), f)) (tested (eqb n m))
 
 -- A child's mark where each field that begins a chain gets one number and each other field another.

@@ -1,0 +1,17 @@
+-- The loop is its own tail: each turn counts one body more.
+use borrow.Author.Rules.{rules}
+use mathlib.Core.Path.{ap, ◌∙◌}
+use Prim.Native.Nat.{◌-◌}
+use Rattle.rules.specs.Image as rules
+use Rattle.tree.specs.Turns.{Turning, turn_first, turn_next, turn_last}
+use Rattle.tree.specs.Tally.{counted_bodies, bodies-steps, bumped}
+
+use Rattle.tree.proofs.count_bodies.Goals as goal
+
+pub loop-p-preserved : goal.loop-p-preserved
+loop-p-preserved c =
+    turn_next _ _ (bodies-steps _) _ _ _ _ c.loop-p.invariant c.loop-p-test.true _ c.bump.auto.counts
+    (c.bump.ensures ∙ ap (λ (r : rules.Procedure). bumped c.loop-p.counts r.body) c.procedure_at-r.ensures)
+
+pub returns : goal.returns
+returns c = turn_last _ _ (bodies-steps _) _ _ _ _ c.loop-p.invariant c.loop-p-test.false

@@ -1,0 +1,15 @@
+use mathlib.Core.Path.{sym, ◌∙◌}
+use Prim.Native.Nat.{◌-◌}
+use borrow.Author.Rules.{rules}
+use borrow.Author.Tests.{not-true, not-false}
+use Rattle.tree.specs.Search.{Searching, search-first, search-next, search-found, search-none}
+use Rattle.rules.specs.Form as form
+use Rattle.tree.specs.Hand.{stands_at, stands_same}
+
+use Rattle.tree.proofs.first_out_of_place.Given as goal
+
+abbrev pub invariant-loop-n : goal.invariant-loop-n
+invariant-loop-n l = Searching (stands_at l.nodes l.body l.depths l.chains) l.count l.n
+
+abbrev pub decreases-loop-n : goal.decreases-loop-n
+decreases-loop-n l = l.count - l.n

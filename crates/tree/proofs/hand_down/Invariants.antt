@@ -1,0 +1,14 @@
+use Prim.Native.Nat.{◌+◌, ◌-◌}
+use native.Mathlib.Omega.{arith}
+use borrow.Author.Rules.{rules}
+use Rattle.rules.specs.Tree.{handed_down}
+use Rattle.tree.specs.Turns.{Turning, turn_first, turn_next, turn_last}
+use Rattle.tree.specs.Hand.{handing, AtMost, handed-steps, handed-turn, at-most-next}
+
+use Rattle.tree.proofs.hand_down.Given as goal
+
+abbrev pub invariant-loop-n : goal.invariant-loop-n
+invariant-loop-n l = Turning (handed_down (handing l.deepens) l.nodes) l.count l.initial.marks l.n l.marks × AtMost l.marks (l.n + 1)
+
+abbrev pub decreases-loop-n : goal.decreases-loop-n
+decreases-loop-n l = l.count - l.n
