@@ -1,0 +1,21 @@
+-- What is left to test decides, whatever was tested: the loop is its own tail.
+use Prim.Native.Nat.{◌-◌, ◌≤◌}
+use mathlib.Core.Path.{◌≡◌, refl, sym, ◌∙◌}
+use native.Mathlib.Omega.{arith}
+use borrow.Author.Rules.{rules}
+use borrow.Author.Tests.{not-true, not-false}
+use Rattle.rules.specs.Machine as machine
+use Rattle.rules.specs.Tree.{range}
+use Rattle.expressions.specs.Relations.{slot_of}
+use Rattle.expressions.proofs.Laws.{cleared_more, cleared-not, cleared-none}
+
+use Rattle.expressions.proofs.cleared.Goals as goal
+
+pub returns-then-not-passes : goal.returns-then-not-passes
+returns-then-not-passes c = sym (c.loop-x.invariant.1 ∙ cleared-not _ _ _ _ _ c.loop-x-test.true (sym c.passes.ensures ∙ c.if-not-passes.true))
+
+pub loop-x-preserved : goal.loop-x-preserved
+loop-x-preserved c = (omega arith, c.loop-x.invariant.1 ∙ cleared_more _ _ _ _ _ c.loop-x-test.true (sym c.passes.ensures ∙ c.if-not-passes.false))
+
+pub returns : goal.returns
+returns c = sym (c.loop-x.invariant.1 ∙ cleared-none _ _ _ _ _ c.loop-x-test.false)

@@ -1,0 +1,9 @@
+-- Four writes, one after the other.
+use borrow.Author.Rules.{rules}
+use Rattle.expressions.specs.Relations.{written}
+
+use Rattle.expressions.proofs.write_row.Goals as goal
+
+pub returns : goal.returns
+unfolding written
+returns c = cc
