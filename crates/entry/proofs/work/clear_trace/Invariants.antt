@@ -1,0 +1,13 @@
+use Prim.Native.Nat.{◌-◌}
+use native.Mathlib.Omega.{arith}
+use borrow.Author.Rules.{rules}
+use lib.ListN.{length}
+use Rattle.entry.proofs.Fill.{Filled, filled_none, filled_more, filled_all}
+
+use Rattle.entry.proofs.work.clear_trace.Given as goal
+
+abbrev pub invariant-loop-i : goal.invariant-loop-i
+invariant-loop-i l = Filled 0 l.initial.trace l.trace l.i
+
+abbrev pub decreases-loop-i : goal.decreases-loop-i
+decreases-loop-i l = length l.initial.trace - l.i
