@@ -1,0 +1,11 @@
+-- The callee's parameters stand in its range.
+use mathlib.Core.Path.{◌≡◌, refl, sym, ap, ◌∙◌}
+use native.Mathlib.Omega.{arith}
+use Rattle.walker.specs.Simple.{call_fit, room_of_lem}
+use borrow.Author.Rules.{rules}
+use Rattle.walker.proofs.call_fits.Lts as lts
+
+use Rattle.walker.proofs.call_fits.Goals as goal
+
+pub returns : goal.returns
+returns c = λ h s k own procs. call_fit c.shares_of-r.ensures s _ _ procs (c.arguments_fit.ensures h s k own)

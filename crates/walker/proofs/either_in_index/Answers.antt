@@ -1,0 +1,9 @@
+-- One name after the other.
+use Rattle.walker.specs.Simple.{share-two}
+use borrow.Author.Rules.{rules}
+use Rattle.walker.proofs.either_in_index.Lts as lts
+
+use Rattle.walker.proofs.either_in_index.Goals as goal
+
+pub returns : goal.returns
+returns c = λ h s g. share-two _ _ _ (c.index_occurs.ensures h s g) (c.index_occurs-2.ensures h s g)

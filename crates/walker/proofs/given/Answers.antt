@@ -1,0 +1,13 @@
+-- The two ways of the definition.
+use Rattle.rules.specs.Form.{given}
+use Rattle.walker.proofs.given.Lts as lts
+
+use Rattle.walker.proofs.given.Goals as goal
+
+pub returns-then-broken : goal.returns-then-broken
+unfolding given
+returns-then-broken c = rw c.if-broken.true
+
+pub returns-else-broken : goal.returns-else-broken
+unfolding given
+returns-else-broken c = rw c.if-broken.false
