@@ -723,7 +723,7 @@ fn if_statement(
     if e.number != 0 {
         return verdict_of(e);
     }
-    let a = statement(
+    let first = statement(
         &nodes[..],
         &variables[..],
         &procedures[..],
@@ -732,10 +732,10 @@ fn if_statement(
         p,
         yes,
     );
-    if a.number != 0 {
-        return a;
+    if first.number != 0 {
+        return first;
     }
-    let b = statement(
+    let second = statement(
         &nodes[..],
         &variables[..],
         &procedures[..],
@@ -744,8 +744,8 @@ fn if_statement(
         p,
         no,
     );
-    if b.number != 0 {
-        return b;
+    if second.number != 0 {
+        return second;
     }
     if_rules(&nodes[..], n, e.secret, condition, yes, no)
 }

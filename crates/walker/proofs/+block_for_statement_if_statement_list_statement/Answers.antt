@@ -92,17 +92,17 @@ if_statement-expression-e-requires t c = known_child (known_of c.requires.0) c.r
 pub if_statement-returns-then-e-ne0 : goal.if_statement-returns-then-e-ne0
 if_statement-returns-then-e-ne0 t c = λ h s st. let d = c.requires.1 in rw (means st d) (if_condition_stops (c.expression-e.ensures h s (standing_child st (refers st d).0)) c.verdict_of.ensures c.if-e-ne0.true)
 
-pub if_statement-statement-a-requires : goal.if_statement-statement-a-requires
-if_statement-statement-a-requires t c = (omega (arith, c.decreases, behind (known_of c.requires.0) c.requires.1 (λ h s r. r.1.0)), walkable_child c.requires.0 c.requires.1 (λ h s r. r.1.0))
+pub if_statement-statement-first-requires : goal.if_statement-statement-first-requires
+if_statement-statement-first-requires t c = (omega (arith, c.decreases, behind (known_of c.requires.0) c.requires.1 (λ h s r. r.1.0)), walkable_child c.requires.0 c.requires.1 (λ h s r. r.1.0))
 
-pub if_statement-returns-then-a-ne0 : goal.if_statement-returns-then-a-ne0
-if_statement-returns-then-a-ne0 t c = λ h s st. let d = c.requires.1 in rw (means st d) (if_yes_stops (c.expression-e.ensures h s (standing_child st (refers st d).0)) c.if-e-ne0.false (c.statement-a.ensures h s (standing_child st (refers st d).1.0)) c.if-a-ne0.true)
+pub if_statement-returns-then-first-ne0 : goal.if_statement-returns-then-first-ne0
+if_statement-returns-then-first-ne0 t c = λ h s st. let d = c.requires.1 in rw (means st d) (if_yes_stops (c.expression-e.ensures h s (standing_child st (refers st d).0)) c.if-e-ne0.false (c.statement-first.ensures h s (standing_child st (refers st d).1.0)) c.if-first-ne0.true)
 
-pub if_statement-statement-b-requires : goal.if_statement-statement-b-requires
-if_statement-statement-b-requires t c = (omega (arith, c.decreases, behind (known_of c.requires.0) c.requires.1 (λ h s r. r.1.1)), walkable_child c.requires.0 c.requires.1 (λ h s r. r.1.1))
+pub if_statement-statement-second-requires : goal.if_statement-statement-second-requires
+if_statement-statement-second-requires t c = (omega (arith, c.decreases, behind (known_of c.requires.0) c.requires.1 (λ h s r. r.1.1)), walkable_child c.requires.0 c.requires.1 (λ h s r. r.1.1))
 
-pub if_statement-returns-then-b-ne0 : goal.if_statement-returns-then-b-ne0
-if_statement-returns-then-b-ne0 t c = λ h s st. let d = c.requires.1 in rw (means st d) (if_no_stops (c.expression-e.ensures h s (standing_child st (refers st d).0)) c.if-e-ne0.false (c.statement-a.ensures h s (standing_child st (refers st d).1.0)) c.if-a-ne0.false (c.statement-b.ensures h s (standing_child st (refers st d).1.1)) c.if-b-ne0.true)
+pub if_statement-returns-then-second-ne0 : goal.if_statement-returns-then-second-ne0
+if_statement-returns-then-second-ne0 t c = λ h s st. let d = c.requires.1 in rw (means st d) (if_no_stops (c.expression-e.ensures h s (standing_child st (refers st d).0)) c.if-e-ne0.false (c.statement-first.ensures h s (standing_child st (refers st d).1.0)) c.if-first-ne0.false (c.statement-second.ensures h s (standing_child st (refers st d).1.1)) c.if-second-ne0.true)
 
 pub if_statement-if_rules-requires : goal.if_statement-if_rules-requires
 if_statement-if_rules-requires t c = let k = known_of c.requires.0 in let d = c.requires.1 in (known_child k d (λ h s r. r.0), known_child k d (λ h s r. r.1.0), known_child k d (λ h s r. r.1.1))
@@ -114,7 +114,7 @@ if_statement-returns t c =
     let e = standing_child st (refers st d).0 in
     let y = standing_child st (refers st d).1.0 in
     let z = standing_child st (refers st d).1.1 in
-    rw (means st d) (if_goes (c.expression-e.ensures h s e) c.if-e-ne0.false (c.statement-a.ensures h s y) c.if-a-ne0.false (c.statement-b.ensures h s z) c.if-b-ne0.false (c.if_rules.ensures.is h s e y z))
+    rw (means st d) (if_goes (c.expression-e.ensures h s e) c.if-e-ne0.false (c.statement-first.ensures h s y) c.if-first-ne0.false (c.statement-second.ensures h s z) c.if-second-ne0.false (c.if_rules.ensures.is h s e y z))
 
 pub list-returns-then-n-eq65535 : goal.list-returns-then-n-eq65535
 list-returns-then-n-eq65535 t c = λ h s k. rw (no_statements k c.if-n-eq65535.true) (list_none refl)
