@@ -1,3 +1,0 @@
-pub mod Thin
-pub mod Results
-pub mod Above
