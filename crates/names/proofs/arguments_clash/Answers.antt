@@ -1,7 +1,6 @@
 -- The roots are marked as they are passed; then the indices are marked, and the roots looked up.
 use Rattle.names.specs.Marks.{clash_twice, clash_index}
 use borrow.Author.Rules.{rules}
-use Rattle.names.proofs.arguments_clash.Lts as lts
 
 use Rattle.names.proofs.arguments_clash.Goals as goal
 

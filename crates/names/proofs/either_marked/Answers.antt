@@ -2,7 +2,6 @@
 use mathlib.Core.Path.{◌≡◌, sym}
 use Rattle.names.specs.Marks.{touches_here, touches_later, touches_one}
 use borrow.Author.Rules.{rules}
-use Rattle.names.proofs.either_marked.Lts as lts
 
 use Rattle.names.proofs.either_marked.Goals as goal
 

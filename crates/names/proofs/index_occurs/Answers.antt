@@ -2,7 +2,6 @@
 use Rattle.rules.specs.Tree.{index, member}
 use Rattle.names.specs.Chains.{standing_index, known_element, known_unsafe}
 use borrow.Author.Rules.{rules}
-use Rattle.names.proofs.index_occurs.Lts as lts
 
 use Rattle.names.proofs.index_occurs.Goals as goal
 

@@ -2,7 +2,6 @@
 use native.Mathlib.Omega.{arith}
 use Rattle.names.specs.Marks.{marked}
 use borrow.Author.Rules.{rules}
-use Rattle.names.proofs.is_marked.Lts as lts
 
 use Rattle.names.proofs.is_marked.Goals as goal
 

@@ -2,7 +2,6 @@
 use native.Mathlib.Omega.{arith}
 use Rattle.names.specs.Marks.{adds_one}
 use borrow.Author.Rules.{rules}
-use Rattle.names.proofs.mark.Lts as lts
 
 use Rattle.names.proofs.mark.Goals as goal
 

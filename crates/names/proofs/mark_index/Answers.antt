@@ -3,7 +3,6 @@ use Rattle.rules.specs.Tree.{index}
 use Rattle.names.specs.Marks.{adds_none}
 use Rattle.names.specs.Chains.{standing_index, known_element, known_unsafe}
 use borrow.Author.Rules.{rules}
-use Rattle.names.proofs.mark_index.Lts as lts
 
 use Rattle.names.proofs.mark_index.Goals as goal
 

@@ -6,7 +6,6 @@ use Prim.Native.Nat.{◌+◌, ◌-◌, ◌≤◌}
 use native.Mathlib.Omega.{arith}
 use Rattle.rules.specs.Tree.{range}
 use Rattle.names.specs.Marks.{Adds}
-use Rattle.names.proofs.mark_range.Lts as lts
 
 use Rattle.names.proofs.mark_range.Goals as goal
 

@@ -2,7 +2,6 @@
 use mathlib.Core.Path.{◌≡◌, refl, sym, ap, ◌∙◌}
 use Rattle.walker.specs.Judge.{argument_fits}
 use borrow.Author.Rules.{rules}
-use Rattle.walker.proofs.argument_fits.Lts as lts
 
 use Rattle.walker.proofs.argument_fits.Goals as goal
 

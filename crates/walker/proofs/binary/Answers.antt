@@ -2,7 +2,6 @@
 use mathlib.Core.Path.{◌≡◌, refl, sym, ap, ◌∙◌}
 use Rattle.walker.specs.Judge.{slow-operator}
 use borrow.Author.Rules.{rules}
-use Rattle.walker.proofs.binary.Lts as lts
 
 use Rattle.walker.proofs.binary.Goals as goal
 

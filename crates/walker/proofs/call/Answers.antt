@@ -3,7 +3,6 @@ use mathlib.Core.Path.{◌≡◌, refl, sym, ap, ◌∙◌}
 use Rattle.walker.specs.Judge.{then_is}
 use Rattle.walker.specs.Simple.{call_known, called_stops, called_goes, call_chain}
 use borrow.Author.Rules.{rules}
-use Rattle.walker.proofs.call.Lts as lts
 
 use Rattle.walker.proofs.call.Goals as goal
 

@@ -3,7 +3,6 @@ use mathlib.Core.Path.{◌≡◌, refl, sym, ap, ◌∙◌}
 use native.Mathlib.Omega.{arith}
 use Rattle.walker.specs.Simple.{call_fit, room_of_lem}
 use borrow.Author.Rules.{rules}
-use Rattle.walker.proofs.call_fits.Lts as lts
 
 use Rattle.walker.proofs.call_fits.Goals as goal
 

@@ -1,7 +1,6 @@
 -- The bounds of the range, and the mark.
 use Rattle.rules.specs.Walk.{declarable}
 use borrow.Author.Rules.{rules}
-use Rattle.walker.proofs.can_declare.Lts as lts
 
 use Rattle.walker.proofs.can_declare.Goals as goal
 

@@ -10,7 +10,6 @@ use Rattle.rules.specs.Walk.{declarable, every}
 use Rattle.records.specs.Records.{as_procedure}
 use Rattle.names.specs.Marks.{Marks}
 use Rattle.walker.specs.Nested.{every-on, every-stops, every-ends, every-begins}
-use Rattle.walker.proofs.can_declare_all.Lts as lts
 
 use Rattle.walker.proofs.can_declare_all.Goals as goal
 

@@ -6,7 +6,6 @@ use Rattle.names.specs.Statements.{known_target, conditional_left, conditional_r
 use Rattle.walker.specs.Judge.{then_is}
 use Rattle.walker.specs.Simple.{condition_stops, conditional_left_stops, conditional_right_stops, conditional_goes, secret-target, swap_clash_lem, condition_clash, same-roots}
 use borrow.Author.Rules.{rules}
-use Rattle.walker.proofs.conditional_swap.Lts as lts
 
 use Rattle.walker.proofs.conditional_swap.Goals as goal
 

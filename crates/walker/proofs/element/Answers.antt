@@ -2,7 +2,6 @@
 use mathlib.Core.Path.{◌≡◌, refl, sym, ap, ◌∙◌}
 use Rattle.rules.specs.Walk.{element_refusal}
 use borrow.Author.Rules.{rules}
-use Rattle.walker.proofs.element.Lts as lts
 
 use Rattle.walker.proofs.element.Goals as goal
 

@@ -2,7 +2,6 @@
 use mathlib.Core.Path.{◌≡◌, refl, sym, ap, ◌∙◌}
 use Rattle.walker.specs.Judge.{stops, goes}
 use borrow.Author.Rules.{rules}
-use Rattle.walker.proofs.element_place.Lts as lts
 
 use Rattle.walker.proofs.element_place.Goals as goal
 

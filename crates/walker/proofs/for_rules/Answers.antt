@@ -4,7 +4,6 @@ use Rattle.rules.specs.Form.{given}
 use Rattle.walker.specs.Judge.{then_is}
 use Rattle.walker.specs.Nested.{for_clash}
 use borrow.Author.Rules.{rules}
-use Rattle.walker.proofs.for_rules.Lts as lts
 
 use Rattle.walker.proofs.for_rules.Goals as goal
 

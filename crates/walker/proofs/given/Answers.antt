@@ -1,6 +1,5 @@
 -- The two ways of the definition.
 use Rattle.rules.specs.Form.{given}
-use Rattle.walker.proofs.given.Lts as lts
 
 use Rattle.walker.proofs.given.Goals as goal
 

@@ -4,7 +4,6 @@ use Rattle.rules.specs.Form.{given}
 use Rattle.walker.specs.Judge.{then_is}
 use Rattle.walker.specs.Nested.{if_clash}
 use borrow.Author.Rules.{rules}
-use Rattle.walker.proofs.if_rules.Lts as lts
 
 use Rattle.walker.proofs.if_rules.Goals as goal
 

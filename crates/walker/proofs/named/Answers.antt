@@ -2,7 +2,6 @@
 use Rattle.rules.specs.Walk.{named}
 use mathlib.Core.Path.{◌≡◌, refl, sym, ap, ◌∙◌}
 use borrow.Author.Rules.{rules}
-use Rattle.walker.proofs.named.Lts as lts
 
 use Rattle.walker.proofs.named.Goals as goal
 

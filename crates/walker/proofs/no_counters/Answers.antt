@@ -9,7 +9,6 @@ use Rattle.rules.specs.Image.{Parts, is_counter}
 use Rattle.rules.specs.Tree.{range}
 use Rattle.rules.specs.Walk.{type_of, every}
 use Rattle.walker.specs.Nested.{every-on, every-stops, every-ends, every-begins}
-use Rattle.walker.proofs.no_counters.Lts as lts
 
 use Rattle.walker.proofs.no_counters.Goals as goal
 

@@ -3,7 +3,6 @@ use mathlib.Core.Path.{◌≡◌, refl, sym, ap, ◌∙◌}
 use Rattle.names.specs.Chains.{standing_index, known_element, known_unsafe, root-small}
 use Rattle.walker.specs.Judge.{whole_place, element_place}
 use borrow.Author.Rules.{rules}
-use Rattle.walker.proofs.place.Lts as lts
 
 use Rattle.walker.proofs.place.Goals as goal
 

@@ -1,7 +1,6 @@
 -- The two records.
 use Rattle.rules.specs.Walk.{same_type}
 use borrow.Author.Rules.{rules}
-use Rattle.walker.proofs.same_type.Lts as lts
 
 use Rattle.walker.proofs.same_type.Goals as goal
 

@@ -2,7 +2,6 @@
 use mathlib.Core.Path.{◌≡◌, refl, sym, ap, ◌∙◌}
 use Rattle.rules.specs.Walk.{expr_refusal, secret}
 use borrow.Author.Rules.{rules}
-use Rattle.walker.proofs.size.Lts as lts
 
 use Rattle.walker.proofs.size.Goals as goal
 

@@ -5,7 +5,6 @@ use Rattle.names.specs.Statements.{known_target, swap_left, swap_right}
 use Rattle.walker.specs.Judge.{then_is}
 use Rattle.walker.specs.Simple.{swap_left_stops, swap_right_stops, swap_goes, swap_clash_lem, same-roots}
 use borrow.Author.Rules.{rules}
-use Rattle.walker.proofs.swap.Lts as lts
 
 use Rattle.walker.proofs.swap.Goals as goal
 

@@ -6,7 +6,6 @@ use Rattle.names.specs.Statements.{known_target, update_target}
 use Rattle.walker.specs.Judge.{then_is}
 use Rattle.walker.specs.Simple.{update_target_stops, update_value_stops, update_goes, secret-target, update_clash}
 use borrow.Author.Rules.{rules}
-use Rattle.walker.proofs.update.Lts as lts
 
 use Rattle.walker.proofs.update.Goals as goal
 

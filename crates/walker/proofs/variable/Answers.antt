@@ -2,7 +2,6 @@
 use mathlib.Core.Path.{◌≡◌, refl, sym, ap, ◌∙◌}
 use Rattle.walker.specs.Judge.{variable-judges}
 use borrow.Author.Rules.{rules}
-use Rattle.walker.proofs.variable.Lts as lts
 
 use Rattle.walker.proofs.variable.Goals as goal
 
