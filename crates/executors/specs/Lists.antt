@@ -1,7 +1,7 @@
 -- One command after another, over the rows: lists of statements, and a block with its end.
 use Rattle.std.specs.Prelude.{ℕ, ◌≡◌, List, Bool, true, false, length}
 use Rattle.std.proofs.Math.Path.{refl, ap}
-use Rattle.std.proofs.Common.{sym, ◌∙◌}
+use Rattle.std.proofs.Common.{sym, subst, ◌∙◌}
 use Rattle.rules.specs.Words.{Direction, forward, inverse}
 use Rattle.rules.specs.Image.{missing, node_of}
 use Rattle.rules.specs.Tree.{Stmt, nothing, list, range}
@@ -49,14 +49,26 @@ module _ {nodes procedures variables constants : List ℕ} (w : World nodes proc
   fine_rest f m e = rw e (rw (stmts_at_lem w sn) at f).1
 
   module _ (b : Bool) (ρ : Env) (m : ℕ) (e : m ≡ (node_of nodes n).next) where
+    ahead : running w p forward ρ (stmts_at w n) ≡ both (running w p forward ρ (stmt_at w n)) (running w p forward ρ (stmts_at w m))
+    unfolding exec in_order
+    ahead = rw (stmts_at_lem w sn, e)
+
+    back : running w p inverse ρ (stmts_at w n) ≡ both (running w p inverse ρ (stmts_at w m)) (running w p inverse ρ (stmt_at w n))
+    unfolding exec in_order
+    back = rw (stmts_at_lem w sn, e)
+
     -- Forward: the statement, then the rest. Inverse: the rest first.
     pub list_forward : b ≡ false → running w p (direction_of b) ρ (stmts_at w n) ≡ both (running w p (direction_of b) ρ (stmt_at w n)) (running w p (direction_of b) ρ (stmts_at w m))
-    unfolding exec in_order direction_of
-    list_forward q = rw (stmts_at_lem w sn, q, e)
+    unfolding direction_of
+    list_forward q =
+        subst (λ (b : Bool). running w p (direction_of b) ρ (stmts_at w n) ≡ both (running w p (direction_of b) ρ (stmt_at w n)) (running w p (direction_of b) ρ (stmts_at w m)))
+        (sym q) ahead
 
     pub list_inverse : b ≡ true → running w p (direction_of b) ρ (stmts_at w n) ≡ both (running w p (direction_of b) ρ (stmts_at w m)) (running w p (direction_of b) ρ (stmt_at w n))
-    unfolding exec in_order direction_of
-    list_inverse q = rw (stmts_at_lem w sn, q, e)
+    unfolding direction_of
+    list_inverse q =
+        subst (λ (b : Bool). running w p (direction_of b) ρ (stmts_at w n) ≡ both (running w p (direction_of b) ρ (stmts_at w m)) (running w p (direction_of b) ρ (stmt_at w n)))
+        (sym q) back
 
 -- The clearing tests at a block's end.
 pub end_ran : {nodes procedures variables constants : List ℕ} (w : World nodes procedures variables constants) {p : ℕ} {slots : List ℕ} {ρ : Env} → Stands w p slots ρ
