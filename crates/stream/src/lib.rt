@@ -10,7 +10,6 @@ ghost use Rattle.std.specs.Prelude.{◌≤◌, ◌≡◌, length};
 ghost use Rattle.stream.specs.Heads.{Fits, size_of};
 
 use head::{Head, Next};
-use libc::STDOUT_FILENO;
 
 // The line of a run over what is lent to it; the lengths and the cells are read from their parts first.
 fn line(
@@ -108,6 +107,6 @@ pub fn replay() {
     let read = io::read_full(0, &mut buffer);
     let whole = lines(&buffer[..read]);
     if !whole || read == 65536 {
-        io::write_all(STDOUT_FILENO, b"bad stream\n");
+        io::write_all(1, b"bad stream\n");
     }
 }
