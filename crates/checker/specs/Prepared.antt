@@ -1,27 +1,26 @@
 -- What the walk of the procedures rests on: the lent parts are those of an image whose form is accepted.
 use Prim.Native.Nat.{ℕ, zero, suc, ◌+◌, ◌-◌, ◌≤◌, ◌<◌}
-use Rattle.std.specs.Prelude.{◌≡◌, refl, List, [], ◌∷◌, ◌++◌, Bool, true, false, not, cond, ◌&&◌, ◌||◌, get_or, length, eqb, leb, ltb}
+use Rattle.std.specs.Prelude.{◌≡◌, refl, List, [], ◌++◌, Bool, true, false, not, cond, ◌&&◌, ◌||◌, get_or, eqb, leb, ltb}
 use Rattle.std.proofs.Common.{sym, ap, ◌∙◌}
 use Rattle.std.proofs.Math.Path.{subst}
 use Rattle.std.proofs.Math.Logic.{dite}
 use Rattle.std.proofs.Math.Decide.{ℕ_discrete}
 use native.Mathlib.Omega.{arith}
-use borrow.Author.Tests.{ltb-true, leb-true, eqb-true, eq-eqb, ne_eqb}
+use borrow.Author.Tests.{ltb-true, leb-true, eq-eqb, ne_eqb}
 use Rattle.rules.specs.Image.{Header, header_of, Parts, parts_of, part, Procedure, procedure_of, node_of, is_statement}
 use Rattle.rules.specs.Form as form
 use Rattle.rules.specs.Form.{◌then◌, given, search, lowest, procedure_fits, format_refusal, layout_refusal}
-use Rattle.rules.specs.Tree.{Stmt, member, declared, range, reading_at, body_of, bodies, stands_in_tree, depths, chained}
+use Rattle.rules.specs.Tree.{Stmt, member, declared, range, reading_at, body_of, bodies, stands_in_tree}
 use Rattle.rules.specs.Walk.{stmt_refusal, undeclared_refusal, body_refusal, walk_refusal}
 use Rattle.rules.specs.Check.{slow, form_refusal, verdict_for, verdict}
 use Rattle.records.specs.Records.{as_verdict, as_procedure}
-use Rattle.records.specs.Truth.{both, either}
+use Rattle.records.specs.Truth.{both}
 use Rattle.records.specs.declared.Verdict.{Verdict}
 use Rattle.records.specs.declared.Procedure as code
 use Rattle.tree.specs.Search.{search-same, then_stops, then_goes}
-use Rattle.form.specs.Formed.{Formed, Fitting}
-use Rattle.names.specs.Marks.{Marks, marked, Adds, most, adds_alone, same-marks, member-append, or_false}
+use Rattle.form.specs.Formed.{Formed}
+use Rattle.names.specs.Marks.{Marks, marked, Adds, adds_alone, same-marks, member-append, or_false}
 use Rattle.names.specs.Sound.{Sound, Standing}
-use Rattle.walker.specs.Judge.{Scope}
 use Rattle.walker.specs.Nested.{Setting, Walked, Walkable}
 
 -- A procedure as the walk uses it: its names are names of the image, its body is a statement.

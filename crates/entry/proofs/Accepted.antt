@@ -10,7 +10,6 @@ use lib.Dec.{eqb, leb, ltb}
 use lib.ListN.{length, drop, length-drop}
 use lib.Seq.{length-take-le}
 use Rattle.rules.specs.Image.{Header, header_of, Parts, part, parts_of, procedure_of, variable_of}
-use Rattle.rules.specs.Form as form
 use Rattle.rules.specs.Form.{Verdict, given, ◌then◌, format_refusal, counts_fit, parts_follow, layout_refusal, shared_before, procedure_fits, procedure_refusal, is_parameter, variable_fits, variable_refusal, size_fits}
 use Rattle.rules.specs.Walk.{type_of}
 use Rattle.rules.specs.Check.{form_refusal, verdict_for, verdict}

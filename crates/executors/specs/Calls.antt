@@ -1,23 +1,23 @@
 -- A call: what its arguments lend, and the body that runs with it.
-use Prim.Native.Nat.{ℕ, zero, suc, ◌+◌, ◌-◌, ◌*◌, ◌≤◌, ◌<◌}
-use Rattle.std.specs.Prelude.{◌≡◌, refl, Bool, true, false, cond, length, get_or, eqb, ltb}
+use Prim.Native.Nat.{ℕ, zero, suc, ◌+◌, ◌≤◌, ◌<◌}
+use Rattle.std.specs.Prelude.{◌≡◌, refl, length, get_or, ltb}
 use Rattle.std.proofs.Math.Path.{sym, ap, subst⁻¹}
 use Rattle.std.proofs.Common.{ap₂, ◌∙◌, arith}
-use mathlib.Core.List.{List, [], ◌∷◌, ◌++◌}
+use mathlib.Core.List.{List, [], ◌∷◌}
 use Rattle.std.proofs.Math.Logic.{dite}
 use Rattle.std.proofs.Math.Decide.{ℕ_discrete}
 use borrow.Author.Tests.{eq-eqb, ne_eqb, ltb-true}
 use Rattle.rules.specs.Words.{Direction}
 use Rattle.rules.specs.Image.{Header, Parts, Procedure, procedure_of}
-use Rattle.rules.specs.Tree.{Expr, LValue, whole, entry, Stmt, body_of}
-use Rattle.rules.specs.Machine.{Slot, no_slot, Env, State, Out, Command, Found, found, fault, after, and_then, inside, eval, address, lent, arguments, noted, on_found, reading, choose, exec}
+use Rattle.rules.specs.Tree.{LValue, whole, entry, Stmt, body_of}
+use Rattle.rules.specs.Machine.{Slot, no_slot, Env, Found, found, fault, after, and_then, inside, eval, address, lent, arguments, noted, on_found, reading, choose, exec}
 use Rattle.rules.specs.Run.{env_of, calls_below}
 use Rattle.records.specs.Truth.{chosen}
-use Rattle.expressions.specs.Relations.{Traced, Good, Agree, Answers, finding, failing, After, Holds, Matches, Rows, Apart, Lends, direction_of}
-use Rattle.expressions.specs.Names.{In, WithinL, WithinLs}
+use Rattle.expressions.specs.Relations.{Traced, Good, Answers, finding, failing, After, Holds, Matches, Rows, Apart, Lends}
+use Rattle.expressions.specs.Names.{WithinL, WithinLs}
 use Rattle.expressions.specs.Laws.{reading-refused}
 use Rattle.expressions.specs.declared.Run.{Run}
-use Rattle.executors.specs.World.{parameters_of, low_of, high_of, World, Stands, Ended, Ran, Reaches}
+use Rattle.executors.specs.World.{low_of, high_of, World, Stands, Ended, Ran}
 use Rattle.executors.specs.Standing.{kept_both, kept_below, called_stands, called_kept}
 use Rattle.executors.specs.Ways.{arguments_at, stmt_at, Fine, FineCall, running, calling}
 

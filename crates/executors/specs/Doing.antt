@@ -1,11 +1,11 @@
 -- How what the code does is put together: a step, what is worked out, one command after another.
-use Rattle.std.specs.Prelude.{ℕ, zero, suc, ◌+◌, ◌<◌, ◌≡◌, refl, List, [], ◌∷◌, ◌++◌, set}
+use Rattle.std.specs.Prelude.{ℕ, zero, suc, ◌≡◌, refl, List, set}
 use Rattle.std.proofs.Common.{sym, ap, ◌∙◌, arith}
-use Rattle.rules.specs.Machine.{State, Out, done, stop, Command, Found, found, fault, noted, holding, step, step_from, on_found, reading, next, both, put}
+use Rattle.rules.specs.Machine.{State, Out, done, Command, Found, noted, holding, step, step_from, on_found, reading, next, both, put}
 use Rattle.expressions.specs.Relations.{Answers, finding, failing, Gets, After, Holds, Matches, goes_on, is_stopped, Does}
 use Rattle.expressions.specs.declared.Run.{Run}
 use Rattle.expressions.specs.declared.Valued.{Valued}
-use Rattle.executors.specs.World.{Kept, Ended, Ran, Reaches, Leads}
+use Rattle.executors.specs.World.{Ran, Reaches, Leads}
 
 module _ {procedures : List ℕ} {p : ℕ} where
   -- What writes no rows.

@@ -1,15 +1,15 @@
 -- One law for each case of a node, once its step is taken: what is done, or what is left to do.
-use Rattle.std.specs.Prelude.{ℕ, ◌+◌, ◌<◌, ◌≡◌, refl, List, Bool, true, false, not, eqb}
+use Rattle.std.specs.Prelude.{ℕ, ◌≡◌, refl, List, Bool, true, false, not, eqb}
 use Rattle.std.proofs.Common.{sym, ap, ◌∙◌, eq-eqb, ne_eqb}
 use Rattle.rules.specs.Words.{Direction, forward, inverse, opposite, turned, update_of}
-use Rattle.rules.specs.Tree.{Expr, LValue, Stmt, root, range}
-use Rattle.rules.specs.Machine.{Slot, Env, State, Command, eval, reading, choose, counted, first_bound}
+use Rattle.rules.specs.Tree.{Expr, range}
+use Rattle.rules.specs.Machine.{Slot, Env, Command, eval, reading, choose, counted, first_bound}
 use Rattle.records.specs.Cases.{place_of, Means}
 use Rattle.records.specs.declared.LValue as case
 use Rattle.records.specs.declared.LValue.TheVariants.{Variable, Element, Unsafe}
 use Rattle.records.specs.declared.Node.TheVariants.{Empty, Update, Swap, ConditionalSwap, If, For, Call, Uncall, Block}
 use Rattle.expressions.specs.Relations.{slot_of, Good, root_of, Gets, After, goes_on, Does, direction_of}
-use Rattle.expressions.specs.Names.{In, WithinE, WithinL, WithinXs, Fitting, Within}
+use Rattle.expressions.specs.Names.{In, WithinE, WithinL, WithinXs, Within}
 use Rattle.expressions.specs.Commands.{updating, exchanging, exchanging_if}
 use Rattle.expressions.specs.Laws.{value_refused}
 use Rattle.expressions.specs.Agreement.{eval-same, updating-same, exchanging-same, exchanging_if-same}
@@ -17,8 +17,7 @@ use Rattle.expressions.specs.declared.Run.{Run}
 use Rattle.expressions.specs.declared.Valued.{Valued}
 use Rattle.executors.specs.World.{low_of, high_of, World, Stands, Leads}
 use Rattle.executors.specs.Doing.{value_leads, leads_on}
-use Rattle.executors.specs.Ways.{performing, expr_at, stmt_at, stmts_at, arguments_at, Fine, FineCall, running, performed, calling, looping, deciding, bounding, closing}
-use Rattle.executors.specs.declared.Counting.{Counting}
+use Rattle.executors.specs.Ways.{performing, expr_at, stmt_at, stmts_at, Fine, FineCall, running, performed, calling, looping, deciding, bounding, closing}
 
 -- An uncall turns the direction.
 pub direction_kept : (b : Bool) → direction_of b ≡ turned (direction_of b) forward

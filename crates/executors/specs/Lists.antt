@@ -4,17 +4,17 @@ use Rattle.std.proofs.Math.Path.{refl, ap}
 use Rattle.std.proofs.Common.{sym, subst, ◌∙◌}
 use Rattle.rules.specs.Words.{Direction, forward, inverse}
 use Rattle.rules.specs.Image.{missing, node_of}
-use Rattle.rules.specs.Tree.{Stmt, nothing, list, range}
-use Rattle.rules.specs.Machine.{Env, State, Out, done, Command, next, both, in_order, exec, block_end}
-use Rattle.expressions.specs.Relations.{slot_of, Matches, goes_on, Does, direction_of}
+use Rattle.rules.specs.Tree.{range}
+use Rattle.rules.specs.Machine.{Env, Command, both, in_order, exec, block_end}
+use Rattle.expressions.specs.Relations.{slot_of, goes_on, Does, direction_of}
 use Rattle.expressions.specs.Names.{WithinXs, Within}
 use Rattle.expressions.specs.Laws.{next-refused}
 use Rattle.expressions.specs.Agreement.{block_end-same}
 use Rattle.expressions.specs.declared.Run.{Run}
-use Rattle.executors.specs.World.{Statement, low_of, high_of, World, Stands, Ended, Ran}
+use Rattle.executors.specs.World.{Statement, low_of, high_of, World, Stands, Ran}
 use Rattle.executors.specs.Standing.{kept_both, stands_on}
 use Rattle.executors.specs.Doing.{finished, goes, both-reaches}
-use Rattle.executors.specs.Ways.{stmt_at, stmts_at, Fine, running, closing}
+use Rattle.executors.specs.Ways.{stmt_at, stmts_at, Fine, running}
 use Rattle.executors.specs.Nodes.{stmts_at_lem, stmts_none}
 
 module _ {nodes procedures variables constants : List ℕ} (w : World nodes procedures variables constants) {p : ℕ} {slots : List ℕ} {ρ : Env} (st : Stands w p slots ρ)

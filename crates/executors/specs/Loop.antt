@@ -1,12 +1,12 @@
 -- The turns of a for: one law for each way out of a turn, and what the loop over them keeps: the loop is its own tail.
-use Prim.Native.Nat.{ℕ, zero, suc, ◌+◌, ◌-◌, ◌<◌}
+use Prim.Native.Nat.{ℕ, zero, suc, ◌-◌, ◌<◌}
 use Rattle.std.specs.Prelude.{◌≡◌, refl, List, get_or, length}
 use Rattle.std.proofs.Math.Path.{sym, ap}
 use Rattle.std.proofs.Common.{◌∙◌, arith, eq-eqb, ne_eqb, lit<}
 use Rattle.std.proofs.Math.ListN.{set}
 use Rattle.rules.specs.Words.{Direction}
-use Rattle.rules.specs.Machine.{Env, State, Out, done, stop, Command, holding, step, next, both, choose, put, left_first, turns_of, counted}
-use Rattle.expressions.specs.Relations.{Holds, Stopped, Matches, goes_on, is_stopped, Does}
+use Rattle.rules.specs.Machine.{Env, State, done, stop, Command, holding, step, next, both, choose, put, left_first, turns_of, counted}
+use Rattle.expressions.specs.Relations.{Holds, Stopped, Matches, is_stopped, Does}
 use Rattle.expressions.specs.Laws.{next-refused, step-refused}
 use Rattle.expressions.specs.declared.Run.{Run}
 use Rattle.executors.specs.World.{World, Stands, Kept, Ended, Ran, Reaches}

@@ -1,6 +1,6 @@
 -- What a decoded node refers to and means, in the program that the lent parts are.
-use Rattle.std.specs.Prelude.{ℕ, ◌+◌, ◌*◌, ◌≤◌, ◌<◌, ◌≡◌, refl, List, [], ◌∷◌, Bool, true, false, cond, ◌&&◌, ◌⊎◌, eqb, leb}
-use Rattle.std.proofs.Common.{sym, ap, ◌∙◌, ⊎_elim, arith, eqb-true, leb-true}
+use Rattle.std.specs.Prelude.{ℕ, ◌≤◌, ◌<◌, ◌≡◌, refl, List, [], ◌∷◌, Bool, true, ◌⊎◌, eqb, leb}
+use Rattle.std.proofs.Common.{ap, ◌∙◌, ⊎_elim, arith, leb-true}
 use Rattle.std.proofs.Math.Path.{subst⁻¹}
 use types.Run.{OneOf, miss}
 use denote.Enum.Declared.{tag_of}
@@ -9,13 +9,13 @@ use Rattle.rules.specs.Words.{Direction}
 use Rattle.rules.specs.Image as rules
 use Rattle.rules.specs.Image.{missing, Header, Parts, node_of, is_statement, is_expression, is_lvalue}
 use Rattle.rules.specs.Form.{record_fits}
-use Rattle.rules.specs.Tree.{Stmt, nothing, list, reading_at}
-use Rattle.rules.specs.Machine.{Calls, Env, done, step, exec}
-use Rattle.records.specs.Truth.{never, both, chosen, past}
+use Rattle.rules.specs.Tree.{nothing, list}
+use Rattle.rules.specs.Machine.{Env, done, step, exec}
+use Rattle.records.specs.Truth.{both, chosen, past}
 use Rattle.records.specs.Fits.{Child, next_statement_lem}
 use Rattle.records.specs.Reading.{stmts_reading, reading-missing}
-use Rattle.records.specs.Decode.{lvalue_by, lvalue_at, with_target, expression_by, decoded_by, decoded_at}
-use Rattle.records.specs.Cases.{node_of_lvalue, Named, Targeted, Means, Refers}
+use Rattle.records.specs.Decode.{lvalue_at, with_target, decoded_by, decoded_at}
+use Rattle.records.specs.Cases.{Targeted, Means}
 use Rattle.records.specs.Understood.{means, refers_to, not_refused, fit_at}
 use Rattle.records.specs.declared.LValue.{LValue}
 use Rattle.records.specs.declared.LValue.TheVariants.{Variable, Element, Unsafe}

@@ -1,14 +1,14 @@
 -- What each function of the runner promises, whatever the program is and wherever its names live.
-use Rattle.std.specs.Prelude.{ℕ, ◌<◌, ◌≡◌, List, Bool}
+use Rattle.std.specs.Prelude.{ℕ, List}
 use Rattle.rules.specs.Words.{Direction}
 use Rattle.rules.specs.Tree.{Stmt}
-use Rattle.rules.specs.Machine.{Env, Command}
+use Rattle.rules.specs.Machine.{Env}
 use Rattle.records.specs.Cases.{Means}
 use Rattle.records.specs.declared.Node as case
 use Rattle.expressions.specs.Names.{In, WithinE}
 use Rattle.expressions.specs.declared.Run.{Run}
-use Rattle.executors.specs.World.{Statement, low_of, high_of, World, Stands, Ran}
-use Rattle.executors.specs.Ways.{expr_at, stmt_at, Fine, FineCall, running, performed, calling, looping, deciding, bounding, Owes, Sound}
+use Rattle.executors.specs.World.{low_of, high_of, World, Stands, Ran}
+use Rattle.executors.specs.Ways.{expr_at, stmt_at, Fine, FineCall, running, performed, calling, looping, deciding, bounding, Owes}
 use Rattle.executors.specs.Nodes.{IsStatement}
 use Rattle.executors.specs.declared.Counting.{Counting}
 use Rattle.executors.specs.declared.Rest.{Rest}

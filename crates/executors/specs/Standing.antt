@@ -1,12 +1,12 @@
 -- The rows of the names: what a statement keeps, and where a called procedure's names live.
-use Rattle.std.specs.Prelude.{ℕ, zero, suc, ◌+◌, ◌-◌, ◌*◌, ◌≤◌, ◌<◌, ◌≡◌, refl, List, [], ◌∷◌, ◌⊎◌, length, get_or, ltb}
-use Rattle.std.proofs.Common.{sym, ap, ◌∙◌, inl, inr, arith, lt-ltb, le-ltb}
+use Rattle.std.specs.Prelude.{ℕ, ◌+◌, ◌-◌, ◌≤◌, ◌<◌, ◌≡◌, List, length, get_or}
+use Rattle.std.proofs.Common.{ap, ◌∙◌, inl, inr, arith, lt-ltb, le-ltb}
 use Rattle.std.proofs.Math.Logic.{dite}
-use Rattle.std.proofs.Math.Decide.{ℕ_discrete, dec_lt}
+use Rattle.std.proofs.Math.Decide.{dec_lt}
 use Rattle.rules.specs.Image.{procedure_of}
 use Rattle.rules.specs.Machine.{Slot, no_slot, Env}
 use Rattle.rules.specs.Run.{env_of}
-use Rattle.expressions.specs.Relations.{slot_of, Good, Agree, Apart, Rows}
+use Rattle.expressions.specs.Relations.{slot_of, Good, Apart, Rows}
 use Rattle.executors.specs.World.{parameters_of, low_of, high_of, locals_of, World, Stands, Untouched, Kept}
 
 pub kept_both : {procedures : List ℕ} {p : ℕ} {a b c : List ℕ} → Kept procedures p a b → Kept procedures p b c → Kept procedures p a c

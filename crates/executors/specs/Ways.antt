@@ -1,5 +1,5 @@
 -- The commands of the cycle's members, and what is owed of a statement that has begun.
-use Rattle.std.specs.Prelude.{ℕ, ◌+◌, ◌-◌, ◌*◌, ◌<◌, ◌≡◌, List, Bool, cond, eqb}
+use Rattle.std.specs.Prelude.{ℕ, ◌+◌, ◌-◌, ◌*◌, ◌<◌, ◌≡◌, List, eqb}
 use Rattle.rules.specs.Words.{Direction, turned}
 use Rattle.rules.specs.Tree.{Expr, LValue, Stmt, empty, update, swap, conditional_swap, branch, loop, call, block, nothing, list, range, reading_at}
 use Rattle.rules.specs.Machine.{Env, Command, Calls, done, eval, arguments, reading, both, choose, counted, block_end, first_bound, exec}

@@ -1,8 +1,8 @@
 -- What the executors rest on: the program that the lent parts are, and where the names of the running procedure live.
-use Rattle.std.specs.Prelude.{ℕ, ◌+◌, ◌*◌, ◌≤◌, ◌<◌, ◌≡◌, List, [], Bool, true, length}
-use Rattle.rules.specs.Image.{missing, Header, Parts, Procedure, procedure_of, node_of, is_statement}
+use Rattle.std.specs.Prelude.{ℕ, ◌+◌, ◌*◌, ◌≤◌, ◌<◌, ◌≡◌, List, [], true, length}
+use Rattle.rules.specs.Image.{missing, Header, Parts, procedure_of, node_of, is_statement}
 use Rattle.rules.specs.Form.{record_fits}
-use Rattle.rules.specs.Tree.{Stmt, body_of}
+use Rattle.rules.specs.Tree.{body_of}
 use Rattle.rules.specs.Machine.{Env, State, Out, Command}
 use Rattle.records.specs.Cases.{Refers}
 use Rattle.records.specs.declared.Node as case

@@ -1,5 +1,5 @@
 -- One law for each way out of `value`: what its node is decoded into says what the tree is, and the answer is the rules' for that tree.
-use Prim.Native.Nat.{ℕ, ◌-◌, ◌^◌, ◌<◌}
+use Prim.Native.Nat.{ℕ, ◌^◌, ◌<◌}
 use mathlib.Core.Path.{◌≡◌, sym, ap, ◌∙◌, subst⁻¹}
 use mathlib.Core.List.{List, []}
 use mathlib.Core.Bool.{cond}

@@ -4,7 +4,7 @@ use Rattle.std.proofs.Math.Path.{refl}
 use mathlib.Core.List.{List, [], ◌∷◌}
 use Rattle.std.proofs.Math.Bool.{true, false}
 use Rattle.rules.specs.Words.{Direction, Update}
-use Rattle.rules.specs.Tree.{Expr, number, constant, variable, element, size, binary, unary, LValue, whole, entry, root, range}
+use Rattle.rules.specs.Tree.{Expr, number, constant, variable, element, size, binary, unary, LValue, whole, entry, root}
 use Rattle.rules.specs.Machine.{Env, State, eval, address, lent, arguments, cleared, block_end}
 use Rattle.expressions.specs.Names.{In, WithinE, WithinL, WithinLs, WithinXs}
 use Rattle.expressions.specs.Commands.{updating, exchanging, exchanging_if}

@@ -1,6 +1,6 @@
 -- How an answer, and a run, goes on: one law for each way through the rules' commands.
 -- An answer's number is 0 or its refusal's, so the number tells which case it is.
-use Prim.Native.Nat.{ℕ, zero, suc, ◌+◌, ◌-◌}
+use Prim.Native.Nat.{ℕ, zero, suc}
 use Rattle.std.specs.Prelude.{◌≡◌, refl, List, ◌++◌}
 use Rattle.std.proofs.Common.{sym, ◌∙◌, append_assoc, arith}
 use Rattle.std.proofs.Math.Path.{subst⁻¹}

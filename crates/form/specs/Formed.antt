@@ -1,6 +1,6 @@
 -- What an accepted form gives to whoever reads the image: counts in range, parts of their lengths, and every record fits.
-use Rattle.std.specs.Prelude.{ℕ, ◌+◌, ◌-◌, ◌*◌, ◌≤◌, ◌<◌, ◌≡◌, refl, List, ◌++◌, Bool, true, false, not, cond, eqb, length}
-use Rattle.std.proofs.Common.{sym, ap, ◌∙◌, ⊎_elim, arith, eqb-true}
+use Rattle.std.specs.Prelude.{ℕ, ◌*◌, ◌<◌, ◌≡◌, refl, List, ◌++◌, true, eqb, length}
+use Rattle.std.proofs.Common.{◌∙◌, ⊎_elim, arith, eqb-true}
 use Rattle.std.proofs.lemmas.Bool.{eqb-false}
 use Rattle.rules.specs.Image.{Header, header_of, Parts, parts_of, node_of, variable_of}
 use Rattle.rules.specs.Form.{Verdict, ◌then◌, format_refusal, layout_refusal, procedure_fits, procedure_refusal, is_parameter, variable_fits, variable_refusal, record_fits, node_refusal}

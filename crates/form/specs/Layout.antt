@@ -1,5 +1,5 @@
 -- What an accepted layout says: each count is in its range, and the parts follow each other to the end.
-use Rattle.std.specs.Prelude.{ℕ, ◌+◌, ◌-◌, ◌*◌, ◌≤◌, ◌<◌, ◌≡◌, refl, List, Bool, true, false, not, ◌&&◌, eqb, leb, length, take, drop}
+use Rattle.std.specs.Prelude.{ℕ, ◌+◌, ◌-◌, ◌*◌, ◌≤◌, ◌≡◌, refl, List, Bool, true, false, not, ◌&&◌, eqb, leb, length, drop}
 use Rattle.std.proofs.Math.Path.{ap}
 use Rattle.std.proofs.Common.{◌∙◌, arith, eqb-true, leb-true, length-drop, length-take-le}
 use Rattle.rules.specs.Image.{Header, header_of, Parts, parts_of, part}

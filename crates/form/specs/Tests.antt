@@ -1,6 +1,6 @@
 -- The tests of the rules, taken apart as the code takes them.
-use Prim.Native.Nat.{ℕ, zero, suc, ◌+◌, ◌*◌, ◌≤◌, ◌<◌}
-use Rattle.std.specs.Prelude.{◌≡◌, refl, List, [], Bool, true, cond, ◌&&◌, ◌||◌, eqb, leb, ltb}
+use Prim.Native.Nat.{ℕ, suc, ◌+◌, ◌≤◌}
+use Rattle.std.specs.Prelude.{◌≡◌, List, [], Bool, true, cond, ◌&&◌, ◌||◌, eqb, leb, ltb}
 use Rattle.std.proofs.Common.{sym, ◌∙◌}
 use Rattle.std.proofs.Math.Path.{ap}
 use native.Mathlib.Omega.{arith}

@@ -10,7 +10,7 @@ use Rattle.std.proofs.Math.Decide.{ℕ_discrete}
 use Rattle.std.proofs.Math.ListN.{length-append}
 use Rattle.rules.specs.Words.{Direction, forward, inverse, turned, Binary, divides}
 use Rattle.rules.specs.Image.{Header, header_of, Parts, parts_of, procedure_of, node_of, is_statement}
-use Rattle.rules.specs.Form.{◌then◌, record_fits, node_refusal}
+use Rattle.rules.specs.Form.{record_fits, node_refusal}
 use Rattle.rules.specs.Tree.{node_references, bodies, occurrences, member, reference_refusal, depths, chained, stands_in_tree, place_refusal, tree_refusal, Expr, number, constant, variable, element, size, binary, unary, LValue, whole, entry, Stmt, empty, update, swap, conditional_swap, branch, loop, call, block, nothing, list, body_of, variables, index, indices}
 use Rattle.rules.specs.Check.{slow, verdict}
 use Rattle.rules.specs.Machine.{Slot, Env, State, Out, done, stop, Command, Found, found, fault, cell_event, noted, holding, after, and_then, inside, load, divided, eval, address, arguments, step_from, step, on_found, reading, next, both, in_order, choose, change, exchange, put, left_first, turns_of, counted, block_end, Calls, first_bound, exec}

@@ -1,7 +1,7 @@
 -- No expression of an accepted image names more variables than there are nodes, so no statement reads many cells by itself.
 -- What a node is read as comes from what it refers to; each expression's variables are a weight on the forest.
 use Prim.Native.Nat.{ℕ, zero, suc, ◌+◌, ◌-◌, ◌*◌, ◌≤◌, ◌<◌}
-use Rattle.std.specs.Prelude.{◌≡◌, refl, Bool, cond, ◌||◌, ◌⊎◌, drop, T, eqb, leb}
+use Rattle.std.specs.Prelude.{◌≡◌, refl, Bool, cond, ◌||◌, drop, T, eqb, leb}
 use Rattle.std.proofs.Common.{◌∙◌, ⊎_elim, add-zero, eqb→eq, ltb→lt, le→leb, T_not}
 use Rattle.std.proofs.Math.Path.{ap}
 use Rattle.std.proofs.Math.Logic.{dite}

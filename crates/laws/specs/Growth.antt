@@ -1,6 +1,6 @@
 -- What a run has left falls and its trace only grows; a command that takes no step writes nothing.
 -- One law for each command; what stands under a step needs the weak form (Grows) only.
-use Rattle.std.specs.Prelude.{ℕ, zero, suc, ◌≤◌, List, [], ◌∷◌, ◌++◌, ◌≡◌, refl, Bool, true, false, get_or, eqb}
+use Rattle.std.specs.Prelude.{ℕ, zero, suc, ◌≤◌, List, [], ◌∷◌, ◌++◌, ◌≡◌, refl, Bool, true, false, eqb}
 use Rattle.std.proofs.Common.{append_assoc, append-nil, sym, ◌∙◌, arith}
 use Rattle.rules.specs.Words.{Direction, forward, inverse, turned}
 use Rattle.rules.specs.Image.{Header, Parts, procedure_of}

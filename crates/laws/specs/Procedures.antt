@@ -7,7 +7,7 @@ use native.Mathlib.Omega.{arith}
 use Rattle.std.proofs.Math.Decide.{dec_lt}
 use Rattle.std.proofs.Math.Dec.{eqb→eq, not_T, lit<}
 use Rattle.rules.specs.Words.{Direction, opposite}
-use Rattle.rules.specs.Image.{Header, Parts, Procedure, procedure_of, is_array, is_constant}
+use Rattle.rules.specs.Image.{Header, Parts, Procedure, procedure_of}
 use Rattle.rules.specs.Form.{shared_before, is_parameter}
 use Rattle.rules.specs.Tree.{member, Stmt, body_of, declared}
 use Rattle.rules.specs.Walk.{type_of}

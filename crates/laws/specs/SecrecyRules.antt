@@ -1,11 +1,11 @@
 -- What the secrecy rules ask of a tree without unsafe look-ups: "000, Figure 2" as a predicate.
 -- Every index, condition, bound and divisor is public, and no secret goes where it would be seen.
-use Rattle.std.specs.Prelude.{ℕ, suc, ◌+◌, ◌≤◌, ◌<◌, List, [], ◌∷◌, ◌≡◌, Bool, not, ◌||◌, length, T}
+use Rattle.std.specs.Prelude.{ℕ, suc, List, [], ◌∷◌, ◌≡◌, Bool, not, ◌||◌, length, T}
 use Rattle.rules.specs.Words.{divides}
-use Rattle.rules.specs.Image.{Parts, Procedure, procedure_of, is_array, is_constant, is_secret}
+use Rattle.rules.specs.Image.{Parts, Procedure, procedure_of, is_array, is_secret}
 use Rattle.rules.specs.Tree.{Expr, number, constant, variable, element, size, binary, unary, LValue, whole, entry, Stmt, empty, update, swap, conditional_swap, branch, loop, call, block, nothing, list, root}
 use Rattle.rules.specs.Walk.{type_of, secret}
-use Rattle.laws.specs.Records.{Own, Single}
+use Rattle.laws.specs.Records.{Single}
 
 module _ (s : Parts) where
   abbrev pub secret_name : ℕ → Bool

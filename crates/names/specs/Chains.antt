@@ -1,17 +1,16 @@
 -- L-values, and chains of statements and arguments: what is read at a node, and what follows it.
-use Rattle.std.specs.Prelude.{ℕ, ◌+◌, ◌≤◌, ◌<◌, ◌≡◌, refl, List, [], ◌∷◌, ◌++◌, Bool, true, false, ◌⊎◌}
+use Rattle.std.specs.Prelude.{ℕ, ◌≤◌, ◌<◌, ◌≡◌, refl, List, [], ◌∷◌, ◌++◌, Bool, true, false, ◌⊎◌}
 use Rattle.std.proofs.Common.{sym, ap, subst, ◌∙◌, inl, inr, ⊎_elim, arith}
 use Rattle.rules.specs.Image.{missing, Header, Parts, node_of, is_statement, is_expression, is_lvalue}
 use Rattle.rules.specs.Tree as tree
 use Rattle.rules.specs.Tree.{reading_at, root, index, roots, indices}
-use Rattle.records.specs.Fits.{Child, Fits, next_statement_lem, next_lvalue_lem}
+use Rattle.records.specs.Fits.{Child, next_statement_lem, next_lvalue_lem}
 use Rattle.records.specs.Reading.{reading-missing, stmts_reading, arguments-reading}
-use Rattle.records.specs.Decode.{lvalue_at, decoded_at}
-use Rattle.records.specs.Cases.{Named, node_of_lvalue, place_of}
+use Rattle.records.specs.Decode.{lvalue_at}
+use Rattle.records.specs.Cases.{Named, place_of}
 use Rattle.records.specs.Understood.{Placed, Stands, fit_at, stands_at}
 use Rattle.records.specs.declared.LValue.{LValue}
 use Rattle.records.specs.declared.LValue.TheVariants.{Variable, Element, Unsafe}
-use Rattle.records.specs.declared.Target.{Target}
 use Rattle.records.specs.declared.Target.TheVariants.{Place, Other}
 use Rattle.names.specs.Sound.{Sound, Standing, Known, Chain, KnownChain, standing_child}
 

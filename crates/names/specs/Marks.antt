@@ -1,7 +1,7 @@
 -- Names as marks: a byte for each of 1,024 variables, not 0 where the name belongs to a list.
-use Rattle.std.specs.Prelude.{ℕ, zero, suc, ◌+◌, ◌-◌, ◌≤◌, ◌<◌, ◌≡◌, List, [], ◌∷◌, ◌++◌, Bool, true, false, not, cond, ◌&&◌, ◌||◌, ◌⊎◌, eqb, get_or, set, replicate}
+use Rattle.std.specs.Prelude.{ℕ, suc, ◌+◌, ◌-◌, ◌≤◌, ◌<◌, ◌≡◌, List, [], ◌∷◌, ◌++◌, Bool, true, false, not, ◌||◌, eqb, get_or, set, replicate}
 use Rattle.std.proofs.Math.Path.{refl, sym}
-use Rattle.std.proofs.Common.{ap, ◌∙◌, inl, inr, ⊎_elim, arith, get_or-set_other}
+use Rattle.std.proofs.Common.{ap, ◌∙◌, arith, get_or-set_other}
 use borrow.Author.Tests.{eq-eqb, ne_eqb, eqb-true, eqb-false}
 use Rattle.std.proofs.Math.ListN.{length, length-set}
 use Rattle.std.proofs.lemmas.List.{get_or-replicate}

@@ -1,23 +1,21 @@
 -- What an accepted form gives the walk: a node stands in it, and so does what the node refers to.
-use Rattle.std.specs.Prelude.{ℕ, ◌+◌, ◌≤◌, ◌<◌, ◌≡◌, refl, List, Bool, true, ◌⊎◌}
-use Rattle.std.proofs.Common.{sym, subst, inl, inr, ⊎_elim, arith}
+use Rattle.std.specs.Prelude.{ℕ, ◌+◌, ◌≤◌, ◌<◌, ◌≡◌, List, Bool, true, ◌⊎◌}
+use Rattle.std.proofs.Common.{subst, arith}
 use Rattle.rules.specs.Image.{missing, Header, Parts, procedure_of, node_of, is_statement, is_expression, is_lvalue}
 use Rattle.rules.specs.Form.{record_fits}
 use Rattle.rules.specs.Tree as tree
 use Rattle.rules.specs.Tree.{reading_at}
-use Rattle.records.specs.Fits.{Child, next_statement_lem, next_lvalue_lem}
-use Rattle.records.specs.Reading.{reading-missing, stmts_reading}
-use Rattle.records.specs.Decode.{decoded_at, argument_at}
+use Rattle.records.specs.Fits.{Child}
+use Rattle.records.specs.Decode.{decoded_at}
 use Rattle.records.specs.Cases.{Means, Refers, Named, Understood, node_of_lvalue}
-use Rattle.records.specs.Understood.{fit_at, understood_at, argument_understood}
+use Rattle.records.specs.Understood.{understood_at}
 use types.Run.{OneOf}
 use denote.Enum.Declared.{tag_of}
-use Rattle.names.specs.Class.{statement_case, expression_case, decoded_as, Classed, statement_case_lem, expression_case_lem, no_statement, no_expression, not_statement, not_expression, own-node}
+use Rattle.names.specs.Class.{Classed, statement_case_lem, expression_case_lem, no_statement, no_expression, not_statement, not_expression, own-node}
 use Rattle.records.specs.declared.LValue.{LValue}
 use Rattle.records.specs.declared.Node.{Node}
 use Rattle.records.specs.declared.Node.TheVariants.{Value}
 use Rattle.records.specs.contracts.Node.{the_type}
-use Rattle.records.specs.declared.Decoded.{Decoded}
 use Rattle.records.specs.declared.Decoded.TheVariants.{Is, Refused}
 
 pub record Sound (h : Header) (s : Parts) : Type 0 where

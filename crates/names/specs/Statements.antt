@@ -1,17 +1,17 @@
 -- What a statement changes, by the case of its node.
-use Rattle.std.specs.Prelude.{ℕ, ◌<◌, ◌≡◌, refl, List, [], ◌∷◌, ◌++◌, Bool, true, false, ◌⊎◌}
-use Rattle.std.proofs.Common.{sym, ap, ◌∙◌, inl, inr, ⊎_elim, arith}
-use Rattle.rules.specs.Image.{missing, Header, Parts, node_of, is_statement, is_lvalue}
-use Rattle.rules.specs.Tree.{reading_at, root, roots, changed}
+use Rattle.std.specs.Prelude.{ℕ, ◌<◌, ◌≡◌, List, [], ◌∷◌, ◌++◌, Bool, ◌⊎◌}
+use Rattle.std.proofs.Common.{inl, inr, ⊎_elim, arith}
+use Rattle.rules.specs.Image.{missing, Header, Parts, node_of, is_statement}
+use Rattle.rules.specs.Tree.{reading_at, roots, changed}
 use Rattle.records.specs.Decode.{decoded_at}
 use Rattle.records.specs.Fits.{Child}
-use Rattle.records.specs.Cases.{Refers, Named, Targeted, place_of}
+use Rattle.records.specs.Cases.{Refers, Targeted}
 use Rattle.records.specs.declared.LValue.{LValue}
 use Rattle.records.specs.declared.Node.{Node}
 use Rattle.records.specs.declared.Node.TheVariants.{Empty, Update, Swap, ConditionalSwap, If, For, Call, Uncall, Block}
 use Rattle.records.specs.declared.Decoded.TheVariants.{Is}
 use Rattle.names.specs.Sound.{Standing, Known, Chain, KnownChain, means, refers, standing_child}
-use Rattle.names.specs.Chains.{Naming, KnownNaming, root_of, root-place, root-small, chain_standing, no_statements, first_statement_lem}
+use Rattle.names.specs.Chains.{Naming, KnownNaming, root_of, root-place, no_statements, first_statement_lem}
 
 module _ {class : ℕ → Bool} {nodes : List ℕ} {h : Header} {s : Parts} {n : ℕ} (st : Standing class nodes h s n) where
   -- A target of the node, and a chain that it begins.

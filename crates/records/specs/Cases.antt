@@ -1,5 +1,5 @@
 -- What each case of a decoded node means as a tree, and what its fields refer to.
-use Rattle.std.specs.Prelude.{ℕ, ◌+◌, ◌≤◌, ◌<◌, ◌≡◌, List, ◌∷◌, Bool, true, false, cond, ◌⊎◌}
+use Rattle.std.specs.Prelude.{ℕ, ◌+◌, ◌≤◌, ◌<◌, ◌≡◌, ◌∷◌, true, false, cond, ◌⊎◌}
 use Rattle.rules.specs.Words.{forward, inverse, update_of, binary_of, complement}
 use Rattle.rules.specs.Image.{missing, Header, Parts, variable_of, is_constant, constant_of, is_statement, is_expression, is_lvalue}
 use Rattle.rules.specs.Tree as tree

@@ -6,7 +6,6 @@ use Rattle.records.specs.declared.LValue.{LValue}
 use Rattle.records.specs.declared.LValue.TheVariants.{Variable, Element, Unsafe}
 use Rattle.records.specs.declared.Target.{Target}
 use Rattle.records.specs.declared.Target.TheVariants.{Place, Other}
-use Rattle.records.specs.declared.Node.{Node}
 use Rattle.records.specs.declared.Node.TheVariants.{Empty, Update, Swap, ConditionalSwap, If, For, Call, Uncall, Block, Constant, Value, Size, Binary, Not, Argument}
 use Rattle.records.specs.declared.Decoded.{Decoded}
 use Rattle.records.specs.declared.Decoded.TheVariants.{Is, Refused}

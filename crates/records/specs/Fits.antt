@@ -1,12 +1,12 @@
 -- What a node's record that fits says of its fields: each reference goes to a larger node number, and to its class.
-use Rattle.std.specs.Prelude.{ℕ, ◌+◌, ◌≤◌, ◌<◌, ◌≡◌, refl, List, Bool, false, cond, ◌&&◌, ◌||◌, ◌⊎◌, eqb, leb, ltb}
-use Rattle.std.proofs.Common.{sym, ◌∙◌, inl, inr, ⊎_elim, arith}
+use Rattle.std.specs.Prelude.{ℕ, ◌≤◌, ◌<◌, ◌≡◌, refl, List, Bool, ◌||◌, ◌⊎◌, eqb, leb, ltb}
+use Rattle.std.proofs.Common.{inl, inr, ⊎_elim, arith}
 use Rattle.std.proofs.Math.Bool.{true}
 use borrow.Author.Tests.{ltb-true, leb-true, eqb-true, eqb-false}
 use Rattle.rules.specs.Image.{missing, Header, Node, node_of, is_statement, is_expression, is_lvalue}
 use Rattle.rules.specs.Form.{class_of, next_statement, next_lvalue, fields, refers, field_fits, operator_fits, record_fits}
 use Rattle.rules.specs.Tree.{is_reference}
-use Rattle.records.specs.Truth.{never, both, either, chosen, every, at_every}
+use Rattle.records.specs.Truth.{both, either, chosen, every, at_every}
 
 -- A reference of node n: "to a larger node number", inside, of the class.
 pub record Child (h : Header) (s : List ℕ) (n : ℕ) (class : ℕ → Bool) (m : ℕ) : Type 0 where

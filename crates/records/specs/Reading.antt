@@ -1,18 +1,17 @@
 -- The recursion of the readings, opened: in an image whose records fit, a node is read from the readings of the nodes that it refers to.
 use Prim.Native.Nat.{ℕ, zero, suc, ◌+◌, ◌-◌, ◌≤◌, ◌<◌}
-use Rattle.std.specs.Prelude.{◌≡◌, List, [], ◌∷◌, Bool, true, false, cond, ◌&&◌, ◌||◌, ◌⊎◌, eqb, leb, length, drop}
+use Rattle.std.specs.Prelude.{◌≡◌, ◌∷◌, Bool, true, ◌⊎◌, eqb, leb, length, drop}
 use Rattle.std.proofs.Math.Path.{refl, ap}
-use Rattle.std.proofs.Common.{sym, ◌∙◌, ⊎_elim, add-zero}
+use Rattle.std.proofs.Common.{◌∙◌, ⊎_elim, add-zero}
 use native.Mathlib.Omega.{arith}
-use borrow.Author.Tests.{leb-true, eqb-true, eqb-false}
+use borrow.Author.Tests.{leb-true, eqb-true}
 use Rattle.std.proofs.Math.ListN.{get_or, get_or-eq_default}
 use Rattle.std.proofs.Math.Seq.{get_or-drop}
-use Rattle.rules.specs.Words.{update_of, binary_of}
 use Rattle.rules.specs.Image.{missing, Header, Parts, Node, node_of, is_statement, is_expression, is_lvalue}
-use Rattle.rules.specs.Form.{class_of, fields, record_fits}
-use Rattle.rules.specs.Tree.{is_reference, Stmt, list, Expr, LValue, Reading, no_reading, expr_of, lvalue_of, stmt_of, reading_of, readings, reading_at}
+use Rattle.rules.specs.Form.{class_of, fields}
+use Rattle.rules.specs.Tree.{is_reference, list, Reading, no_reading, expr_of, lvalue_of, stmt_of, reading_of, readings, reading_at}
 use Rattle.records.specs.Truth.{both, same-choice, past, last, every, at_every}
-use Rattle.records.specs.Fits.{Fits, fits, Child, reference-behind, next_statement_lem, next_lvalue_lem}
+use Rattle.records.specs.Fits.{Fits, Child, reference-behind, next_statement_lem, next_lvalue_lem}
 
 -- Two ways to read the nodes behind n that agree read a record that fits alike.
 module _ (h : Header) (s : Parts) (n : ℕ) (r : Node) (small : n < missing) (f : Fits h s.nodes n r)

@@ -1,6 +1,6 @@
 -- Tests taken apart: what a true conjunction says, and a choice by its two cases.
-use Rattle.std.specs.Prelude.{◌≡◌, refl, Bool, true, false, not, cond, ◌&&◌, ◌||◌, ◌⊎◌, ℕ, zero, suc, ◌+◌, ◌≤◌, ◌<◌, eqb, leb}
-use Rattle.std.proofs.Common.{inl, inr, ⊎_elim, arith, eqb-true, add-zero, add-suc}
+use Rattle.std.specs.Prelude.{◌≡◌, refl, Bool, true, false, cond, ◌&&◌, ◌||◌, ◌⊎◌, ℕ, zero, suc, ◌+◌, ◌≤◌, ◌<◌, eqb}
+use Rattle.std.proofs.Common.{inl, inr, ⊎_elim, arith, eqb-true}
 use Rattle.std.proofs.lemmas.Bool.{eqb-false}
 
 pub never : false ≡ true → ⊥

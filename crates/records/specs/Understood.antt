@@ -1,11 +1,11 @@
 -- In an image whose node records fit, every node is understood: the case that it is decoded into says what it is read as and what it refers to.
-use Rattle.std.specs.Prelude.{ℕ, ◌+◌, ◌≤◌, ◌<◌, ◌≡◌, refl, List, ◌∷◌, Bool, false, cond, ◌&&◌, ◌||◌, ◌⊎◌, eqb, leb, ltb}
-use Rattle.std.proofs.Common.{sym, ap, ◌∙◌, inl, inr, ⊎_elim, arith}
+use Rattle.std.specs.Prelude.{ℕ, ◌+◌, ◌≤◌, ◌<◌, ◌≡◌, refl, eqb, leb}
+use Rattle.std.proofs.Common.{◌∙◌, ⊎_elim, arith}
 use Rattle.std.proofs.Math.Bool.{true}
 use borrow.Author.Tests.{ltb-true, leb-true, eqb-true, eqb-false, le-leb}
 use Rattle.rules.specs.Image.{missing, Header, Parts, Node, node_of, is_statement, is_expression, is_lvalue}
-use Rattle.rules.specs.Form.{class_of, fields, field_fits, record_fits}
-use Rattle.rules.specs.Tree.{Reading, expr_of, lvalue_of, stmt_of, reading_at}
+use Rattle.rules.specs.Form.{fields, field_fits, record_fits}
+use Rattle.rules.specs.Tree.{expr_of, lvalue_of, stmt_of, reading_at}
 use Rattle.records.specs.Truth.{both, either, chosen, past, last}
 use Rattle.records.specs.Fits.{Child, Fits, fits, child, child_or_missing, next_lvalue_lem}
 use Rattle.records.specs.Reading.{stmt_reading, expr_reading, lvalue-reading, arguments-reading}

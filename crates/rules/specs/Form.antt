@@ -1,6 +1,6 @@
 -- The verdict, numbers 1 to 5: layout, records, the table of fields.
-use Rattle.std.specs.Prelude.{ℕ, zero, suc, ◌+◌, ◌-◌, ◌*◌, List, [], ◌∷◌, Bool, true, false, not, cond, ◌&&◌, ◌||◌, length, get_or, eqb, leb, ltb}
-use Rattle.rules.specs.Image.{missing, Header, header_of, Parts, parts_of, Procedure, procedure_of, Variable, variable_of, is_scalar, is_array, is_constant, is_counter, Node, node_of, is_statement, is_expression, is_lvalue}
+use Rattle.std.specs.Prelude.{ℕ, zero, suc, ◌+◌, ◌*◌, List, [], ◌∷◌, Bool, true, not, cond, ◌&&◌, ◌||◌, length, get_or, eqb, leb, ltb}
+use Rattle.rules.specs.Image.{missing, Header, header_of, Parts, procedure_of, Variable, variable_of, is_array, is_constant, Node, node_of, is_statement, is_expression, is_lvalue}
 
 -- "Answer: a number and a place, 0 and 0 when accepted."
 pub record Verdict : Type 0 where

@@ -1,5 +1,5 @@
 -- The image: its header and its four parts, read where they stand.
-use Rattle.std.specs.Prelude.{ℕ, zero, suc, ◌+◌, ◌-◌, ◌*◌, ◌^◌, List, [], ◌∷◌, Bool, true, false, not, cond, ◌&&◌, ◌||◌, length, get_or, take, drop, eqb, leb, ltb}
+use Rattle.std.specs.Prelude.{ℕ, ◌+◌, ◌-◌, ◌*◌, List, Bool, ◌&&◌, get_or, take, drop, eqb, leb}
 
 -- "All numbers little-endian; 16 bits unless said."
 abbrev pub le16 : List ℕ → ℕ → ℕ

@@ -1,6 +1,6 @@
 -- The run of a tree: cells, steps, events, refusals 23 to 28, in both directions.
-use Rattle.std.specs.Prelude.{ℕ, zero, suc, ◌+◌, ◌-◌, ◌*◌, ◌%◌, ◌^◌, List, [], ◌∷◌, ◌++◌, Bool, true, false, not, cond, ◌&&◌, ◌||◌, length, get_or, set, eqb, leb, ltb}
-use Rattle.rules.specs.Words.{Direction, forward, inverse, turned, Binary, Update, Unary, operate, operate1, divides, changed_by, going, exchanged}
+use Rattle.std.specs.Prelude.{ℕ, zero, suc, ◌+◌, ◌%◌, ◌^◌, List, [], ◌∷◌, ◌++◌, Bool, true, false, not, cond, ◌&&◌, ◌||◌, get_or, set, eqb, ltb}
+use Rattle.rules.specs.Words.{Direction, forward, inverse, turned, Binary, operate, operate1, divides, changed_by, going, exchanged}
 use Rattle.rules.specs.Tree.{Expr, number, constant, variable, element, size, binary, unary, LValue, whole, entry, Stmt, empty, update, swap, conditional_swap, branch, loop, call, block, nothing, list, root}
 
 -- Where a variable lives: its first cell, how many it has, their size, whether they are secret.

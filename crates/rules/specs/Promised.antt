@@ -1,8 +1,8 @@
 -- What the public functions promise of their answers and of every lent slice afterwards, for every input.
-use Rattle.std.specs.Prelude.{ℕ, ◌-◌, ◌≡◌, Bool, true, false, List, [], ◌∷◌, ◌++◌, length, take, replicate}
+use Rattle.std.specs.Prelude.{ℕ, ◌≡◌, Bool, true, false, List, [], ◌∷◌, length}
 use Rattle.rules.specs.Words.{Direction, forward, inverse}
 use Rattle.rules.specs.Check.{verdict}
-use Rattle.rules.specs.Run.{Given, Outcome, run, fitted, trace_after, work_after}
+use Rattle.rules.specs.Run.{Given, run, fitted, trace_after, work_after}
 
 -- check: "a number and a place"
 pub record Checked (image : List ℕ) (number place : ℕ) : Type 0 where

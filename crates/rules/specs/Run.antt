@@ -1,12 +1,12 @@
 -- The run: what is taken, where the cells are, refusals 19 to 22, and the outcome.
-use Rattle.std.specs.Prelude.{ℕ, zero, suc, ◌+◌, ◌-◌, ◌*◌, ◌^◌, List, [], ◌∷◌, ◌++◌, Bool, true, false, not, cond, ◌&&◌, ◌||◌, length, get_or, take, replicate, eqb, leb, ltb}
+use Rattle.std.specs.Prelude.{ℕ, zero, suc, ◌+◌, ◌-◌, ◌^◌, List, [], ◌∷◌, ◌++◌, Bool, true, not, cond, ◌&&◌, ◌||◌, length, get_or, take, replicate, eqb, leb, ltb}
 use Rattle.rules.specs.Words.{Direction}
 use Rattle.rules.specs.Image.{Header, header_of, Parts, parts_of, Procedure, procedure_of, Variable, is_array, is_constant, is_secret}
-use Rattle.rules.specs.Form.{Verdict, accepted, refused, given, ◌then◌, lowest, is_parameter}
+use Rattle.rules.specs.Form.{Verdict, given, ◌then◌, lowest, is_parameter}
 use Rattle.rules.specs.Tree.{body_of}
 use Rattle.rules.specs.Walk.{type_of}
 use Rattle.rules.specs.Check.{verdict}
-use Rattle.rules.specs.Machine.{Slot, no_slot, Env, State, Out, done, stop, Command, choose, Calls, exec}
+use Rattle.rules.specs.Machine.{Slot, no_slot, Env, Out, done, stop, choose, Calls, exec}
 
 -- "Taken: image, direction, a list of lengths (one per parameter of the last procedure), the store, work words, a step budget, a trace slice"
 -- works: how many work words; room: how long the trace slice is

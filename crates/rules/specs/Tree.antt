@@ -1,8 +1,8 @@
 -- The verdict, number 6, and the image read as a tree.
-use Rattle.std.specs.Prelude.{ℕ, zero, suc, ◌+◌, ◌-◌, ◌*◌, List, [], ◌∷◌, ◌++◌, Bool, true, false, not, cond, ◌&&◌, ◌||◌, length, get_or, set, replicate, eqb, leb, ltb}
+use Rattle.std.specs.Prelude.{ℕ, zero, suc, ◌-◌, List, [], ◌∷◌, ◌++◌, Bool, true, false, not, cond, ◌&&◌, ◌||◌, get_or, set, replicate, eqb, leb}
 use Rattle.rules.specs.Words.{Direction, forward, inverse, Binary, binary_of, Update, update_of, Unary, complement}
 use Rattle.rules.specs.Image.{missing, Header, Parts, procedure_of, variable_of, is_constant, Node, node_of, constant_of, is_statement}
-use Rattle.rules.specs.Form.{Verdict, ◌then◌, lowest, class_of, expression, lvalue, statement, first_argument, first_statement}
+use Rattle.rules.specs.Form.{Verdict, ◌then◌, lowest, class_of, expression, first_argument, first_statement}
 
 -- ---- 6: "no tree"
 

@@ -1,6 +1,6 @@
 -- The verdict, numbers 7 to 13: "procedures are walked in order: children in field order, then the node's own rules by number, then next".
-use Rattle.std.specs.Prelude.{ℕ, zero, suc, ◌+◌, ◌-◌, ◌*◌, List, [], ◌∷◌, ◌++◌, Bool, true, false, not, cond, ◌&&◌, ◌||◌, length, get_or, eqb, leb, ltb}
-use Rattle.rules.specs.Words.{Direction, Binary, plus, minus, times, quotient, remainder, conjunction, disjunction, exclusive, equal, unequal, below, above, at_most, at_least, shift_left, shift_right, divides}
+use Rattle.std.specs.Prelude.{ℕ, zero, suc, ◌+◌, ◌-◌, List, [], ◌∷◌, ◌++◌, Bool, true, false, not, ◌&&◌, ◌||◌, length, eqb, leb, ltb}
+use Rattle.rules.specs.Words.{Binary}
 use Rattle.rules.specs.Image.{Header, Parts, Procedure, procedure_of, Variable, variable_of, is_array, is_constant, is_counter, is_secret}
 use Rattle.rules.specs.Form.{Verdict, accepted, given, ◌then◌, lowest}
 use Rattle.rules.specs.Tree.{member, Expr, number, constant, variable, element, size, binary, unary, LValue, whole, entry, Stmt, empty, update, swap, conditional_swap, branch, loop, call, block, nothing, list, range, body_of, variables, root, index, roots, indices, changed, declared}

@@ -1,11 +1,11 @@
 -- Marks that are handed down: what the bodies begin with, and that no mark outgrows the nodes passed.
-use Rattle.std.specs.Prelude.{◌≡◌, refl, List, [], ◌∷◌, ◌++◌, Bool, true, false, not, cond, ◌&&◌, ◌||◌, ◌⊎◌, ℕ, zero, suc, ◌+◌, ◌≤◌, ◌<◌, eqb, leb, ltb, length, get_or, take, set, replicate}
-use Rattle.std.proofs.Common.{sym, ap, ◌∙◌, inl, inr, ⊎_elim, arith, eqb-true, ltb-true, ltb-false, length-set, get_or-set_same, get_or-set_other}
+use Rattle.std.specs.Prelude.{◌≡◌, refl, List, [], ◌∷◌, Bool, true, false, not, cond, ◌&&◌, ◌||◌, ℕ, zero, suc, ◌+◌, ◌≤◌, ◌<◌, eqb, leb, ltb, length, get_or, take, set, replicate}
+use Rattle.std.proofs.Common.{sym, ap, ◌∙◌, ⊎_elim, arith, eqb-true, ltb-true, ltb-false, length-set, get_or-set_same, get_or-set_other}
 use Rattle.std.proofs.Math.Bool.{or-true, or-false}
 use Rattle.std.proofs.lemmas.Bool.{eqb-false}
 use Rattle.std.proofs.lemmas.List.{length-replicate}
 use Rattle.std.proofs.Math.Seq.{set_out}
-use Rattle.rules.specs.Image.{missing, Header, is_statement, Parts, Node, node_of, procedure_of}
+use Rattle.rules.specs.Image.{missing, Header, is_statement, Node, node_of, procedure_of}
 use Rattle.rules.specs.Form.{first_argument, first_statement, class_of, given, search}
 use Rattle.rules.specs.Tree.{bodies, member, marked, handed, handed_on, handed_down, deeper, begins, is_reference, depths, chained, stands_in_tree, place_refusal}
 use Rattle.records.specs.Truth.{chosen}

@@ -1,6 +1,6 @@
 -- How often each node is referred to, counted as never, once or more: 0, 1 or 2.
-use Rattle.std.specs.Prelude.{◌≡◌, refl, List, [], ◌∷◌, ◌++◌, Bool, true, false, not, cond, ◌⊎◌, ℕ, zero, suc, ◌+◌, ◌≤◌, ◌<◌, eqb, ltb, length, get_or, set}
-use Rattle.std.proofs.Common.{sym, ap, ◌∙◌, inl, inr, ⊎_elim, arith, add-zero, zero-add, eqb-true, ne_eqb, ltb-true, ltb-false, length-set, get_or-set_same, get_or-set_other}
+use Rattle.std.specs.Prelude.{◌≡◌, refl, List, [], ◌∷◌, ◌++◌, true, false, not, cond, ℕ, suc, ◌+◌, ◌≤◌, ◌<◌, eqb, ltb, length, get_or, set}
+use Rattle.std.proofs.Common.{sym, ◌∙◌, ⊎_elim, arith, add-zero, zero-add, eqb-true, ne_eqb, ltb-true, ltb-false, length-set, get_or-set_same, get_or-set_other}
 use Rattle.std.proofs.lemmas.Bool.{eqb-false}
 use Rattle.rules.specs.Image.{Header, Node, node_of, procedure_of}
 use Rattle.rules.specs.Form.{class_of, given, search}

@@ -1,21 +1,20 @@
 -- What the walk's functions promise: a verdict that is the definition's, for every list of names that the marks stand for.
-use Rattle.std.specs.Prelude.{ℕ, zero, suc, ◌+◌, ◌-◌, ◌≤◌, ◌<◌, ◌≡◌, refl, List, [], ◌∷◌, ◌++◌, Bool, true, false, not, cond, ◌&&◌, ◌||◌, eqb, get_or}
+use Rattle.std.specs.Prelude.{ℕ, zero, suc, ◌-◌, ◌<◌, ◌≡◌, refl, List, Bool, true, false, not, cond, ◌&&◌, ◌||◌, eqb, get_or}
 use Rattle.std.proofs.Common.{sym, ap, ◌∙◌, arith}
 use Rattle.std.specs.Bool.{beq}
 use borrow.Author.Tests.{eq-eqb, ne_eqb, eqb-true, eqb-false}
-use Rattle.rules.specs.Words.{Binary, binaries, binary_of, plus, quotient, remainder, divides}
+use Rattle.rules.specs.Words.{binaries, binary_of, plus, divides}
 use Rattle.rules.specs.Image.{Header, Parts, variable_of, is_array, is_constant, is_secret}
 use Rattle.rules.specs.Form as form
 use Rattle.rules.specs.Form.{accepted, given, ◌then◌}
 use Rattle.rules.specs.Tree as tree
 use Rattle.rules.specs.Tree.{member, root}
-use Rattle.rules.specs.Walk.{type_of, same_type, same, passes_array, secret, named, element_refusal, expr_refusal, target_refusal, argument_refusal, stmt_refusal}
+use Rattle.rules.specs.Walk.{type_of, same_type, same, passes_array, secret, named, element_refusal, expr_refusal, target_refusal, argument_refusal}
 use Rattle.rules.specs.Check.{slow}
 use Rattle.rules.specs.Image as rules
 use Rattle.records.specs.Truth.{chosen}
-use Rattle.records.specs.Records.{as_verdict, as_variable}
+use Rattle.records.specs.Records.{as_variable}
 use Rattle.records.specs.declared.Variable.{Variable}
-use Rattle.records.specs.declared.Verdict.{Verdict}
 use Rattle.records.specs.Cases.{place_of}
 use Rattle.records.specs.declared.LValue.{LValue}
 use Rattle.records.specs.declared.LValue.TheVariants as lvalue

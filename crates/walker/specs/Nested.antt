@@ -1,6 +1,6 @@
 -- One law for each way out of the statements that hold others: if, for, block, list.
-use Prim.Native.Nat.{ℕ, zero, suc, ◌+◌, ◌-◌, ◌≤◌, ◌<◌}
-use Rattle.std.specs.Prelude.{◌≡◌, List, [], ◌∷◌, ◌++◌, Bool, true, false, not, cond, ◌&&◌, ◌||◌, ◌⊎◌, eqb}
+use Prim.Native.Nat.{ℕ, suc, ◌+◌, ◌-◌, ◌≤◌, ◌<◌}
+use Rattle.std.specs.Prelude.{◌≡◌, List, [], ◌∷◌, ◌++◌, Bool, true, false, not, cond, ◌||◌, ◌⊎◌, eqb}
 use Rattle.std.proofs.Math.Path.{refl}
 use Rattle.std.proofs.Common.{sym, ap, subst, ◌∙◌}
 use native.Mathlib.Omega.{arith}
@@ -10,7 +10,7 @@ use Rattle.rules.specs.Form as form
 use Rattle.rules.specs.Form.{accepted, given, ◌then◌}
 use Rattle.rules.specs.Tree as tree
 use Rattle.rules.specs.Tree.{member, range, reading_at, variables, changed, declared}
-use Rattle.rules.specs.Walk.{type_of, secret, expr_refusal, share, every, declarable, stmt_refusal}
+use Rattle.rules.specs.Walk.{type_of, share, every, declarable, stmt_refusal}
 use Rattle.rules.specs.Check.{slow}
 use Rattle.records.specs.Records.{as_verdict}
 use Rattle.records.specs.declared.Verdict.{Verdict}

@@ -1,13 +1,13 @@
 -- One law for each way out of the statements that hold no other: update, swap, conditional swap, call.
-use Rattle.std.specs.Prelude.{ℕ, zero, suc, ◌+◌, ◌-◌, ◌≤◌, ◌<◌, ◌≡◌, refl, List, [], ◌∷◌, ◌++◌, Bool, true, false, not, cond, ◌&&◌, ◌||◌, ◌⊎◌, eqb, ltb, length}
-use Rattle.std.proofs.Common.{sym, ap, ◌∙◌, inl, inr, ⊎_elim, arith}
+use Rattle.std.specs.Prelude.{ℕ, ◌+◌, ◌-◌, ◌≤◌, ◌≡◌, List, [], ◌∷◌, ◌++◌, Bool, false, not, ◌&&◌, ◌||◌, ◌⊎◌, eqb, ltb}
+use Rattle.std.proofs.Common.{sym, ap, ◌∙◌, ⊎_elim, arith}
 use Rattle.rules.specs.Words as words
 use Rattle.rules.specs.Image.{Header, Parts, procedure_of, variable_of, is_secret, is_statement, is_expression, is_lvalue}
 use Rattle.rules.specs.Form as form
 use Rattle.rules.specs.Form.{given, ◌then◌}
 use Rattle.rules.specs.Tree as tree
 use Rattle.rules.specs.Tree.{member, reading_at, variables, root, index, roots, indices}
-use Rattle.rules.specs.Walk.{type_of, same_type, secret, secret_root, expr_refusal, target_refusal, arguments_refusal, share, repeats, swap_clash, arguments_fit, call_fits, stmt_refusal}
+use Rattle.rules.specs.Walk.{type_of, same_type, secret_root, arguments_refusal, share, repeats, swap_clash, call_fits, stmt_refusal}
 use Rattle.rules.specs.Check.{slow}
 use Rattle.records.specs.Decode.{decoded_at}
 use Rattle.records.specs.Cases.{place_of}
@@ -18,12 +18,12 @@ use Rattle.records.specs.declared.LValue.{LValue}
 use Rattle.records.specs.declared.Node.TheVariants.{Update, Swap, ConditionalSwap, Call, Uncall}
 use Rattle.records.specs.declared.Decoded.TheVariants.{Is}
 use Rattle.records.specs.declared.Verdict.{Verdict}
-use Rattle.names.specs.Marks.{member-append, or_comm, or_false, share-append, share-comm}
+use Rattle.names.specs.Marks.{member-append, or_false, share-append, share-comm}
 use Rattle.names.specs.Sound.{Standing, Known, Chain, KnownChain, means, refers}
 use Rattle.names.specs.Statements.{begun, known_begun}
 use Rattle.names.specs.Chains.{root_of, root-place}
 use Rattle.walker.specs.declared.Judged.{Judged}
-use Rattle.walker.specs.Judge.{Scope, verdict_of, Judges, place_refusal, stops, goes, Typed}
+use Rattle.walker.specs.Judge.{Scope, verdict_of, Judges, place_refusal, stops, goes}
 use Rattle.walker.specs.Ways.{fitting}
 
 -- A node that is known to be of a case.

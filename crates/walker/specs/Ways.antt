@@ -1,25 +1,23 @@
 -- One law for each way out of the walk's functions over expressions and arguments.
-use Prim.Native.Nat.{ℕ, zero, suc, ◌+◌, ◌-◌, ◌≤◌, ◌<◌}
-use Rattle.std.specs.Prelude.{◌≡◌, List, [], ◌∷◌, ◌++◌, Bool, true, false, not, cond, ◌&&◌, ◌||◌, eqb, length}
+use Prim.Native.Nat.{ℕ, suc, ◌+◌, ◌-◌, ◌≤◌, ◌<◌}
+use Rattle.std.specs.Prelude.{◌≡◌, List, [], ◌∷◌, Bool, true, false, ◌&&◌, ◌||◌, eqb, length}
 use Rattle.std.proofs.Math.Path.{refl}
-use Rattle.std.proofs.Common.{sym, ap, ◌∙◌}
+use Rattle.std.proofs.Common.{sym, ◌∙◌}
 use native.Mathlib.Omega.{arith}
-use borrow.Author.Tests.{eq-eqb, ne_eqb, eqb-true, eqb-false}
+use borrow.Author.Tests.{ne_eqb, eqb-true, eqb-false}
 use Rattle.std.proofs.Math.Dec.{eqb-suc-suc}
-use Rattle.rules.specs.Words.{Binary, Unary, binary_of}
+use Rattle.rules.specs.Words.{Binary, Unary}
 use Rattle.rules.specs.Image.{Header, Parts, is_array, is_lvalue}
 use Rattle.rules.specs.Form as form
 use Rattle.rules.specs.Form.{accepted, given, ◌then◌}
 use Rattle.rules.specs.Tree as tree
 use Rattle.rules.specs.Tree.{root, reading_at}
-use Rattle.rules.specs.Walk.{type_of, same_type, same, passes_array, secret, named, element_refusal, expr_refusal, argument_refusal, arguments_refusal, arguments_fit}
+use Rattle.rules.specs.Walk.{type_of, same_type, same, passes_array, secret, expr_refusal, arguments_refusal, arguments_fit}
 use Rattle.rules.specs.Check.{slow}
-use Rattle.records.specs.Cases.{place_of}
-use Rattle.records.specs.declared.LValue.{LValue}
 use Rattle.names.specs.Sound.{Standing}
 use Rattle.names.specs.Chains.{some_argument}
 use Rattle.walker.specs.declared.Judged.{Judged}
-use Rattle.walker.specs.Judge.{Scope, verdict_of, Judges, ElementJudged, ArgumentFits, place_refusal, stops, goes}
+use Rattle.walker.specs.Judge.{Scope, verdict_of, Judges, ElementJudged, place_refusal, stops, goes}
 
 module _ {s : Parts} {Γ : List ℕ} where
   pub judges_number : (n v : ℕ) → Judges s Γ (tree.number n v) (record { number = 0; place = 0; secret = false })

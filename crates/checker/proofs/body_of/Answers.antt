@@ -1,8 +1,6 @@
 -- A body is walked with its parameters in scope and nothing declared; what it declares is then marked.
-use Rattle.records.specs.Records.{as_procedure, as_verdict}
-use Rattle.checker.specs.Prepared.{ranged, walkable_of, declared-marks, body_stops, body_goes}
-use borrow.Author.Rules.{rules}
-
+use Rattle.records.specs.Records.{as_procedure}
+use Rattle.checker.specs.Prepared.{declared-marks, body_stops, body_goes}
 use Rattle.checker.proofs.body_of.Goals as goal
 
 pub returns-then-walked-ne0 : goal.returns-then-walked-ne0

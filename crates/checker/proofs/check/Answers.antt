@@ -4,11 +4,9 @@ use lib.ListN.{length}
 use Rattle.rules.specs.Image.{Header}
 use Rattle.rules.specs.Form as form
 use Rattle.tree.specs.Search.{then_stops, then_goes}
-use Rattle.form.specs.Formed.{Formed, formed}
+use Rattle.form.specs.Formed.{formed}
 use Rattle.form.specs.Layout.{Laid}
 use Rattle.checker.specs.Prepared.{verdict-is}
-use borrow.Author.Rules.{rules}
-
 use Rattle.checker.proofs.check.Goals as goal
 
 pub returns-then-form-ne0 : goal.returns-then-form-ne0

@@ -1,13 +1,8 @@
 -- The search from `from` is the search from x: the names before x are marked.
-use Prim.Native.Nat.{◌-◌, ◌≤◌}
-use mathlib.Core.Path.{◌≡◌, refl, sym, ◌∙◌}
+use mathlib.Core.Path.{refl, sym, ◌∙◌}
 use native.Mathlib.Omega.{arith}
-use borrow.Author.Rules.{rules}
-use Rattle.rules.specs.Form as form
-use Rattle.names.specs.Marks.{marked}
 use Rattle.tree.specs.Search.{search-on, search-stop, search-end}
 use Rattle.checker.specs.Prepared.{not_marked, is_marked}
-
 use Rattle.checker.proofs.first_unmarked.Goals as goal
 
 pub returns-then-taken-x-eq0 : goal.returns-then-taken-x-eq0

@@ -1,13 +1,7 @@
 use Prim.Native.Nat.{◌-◌, ◌≤◌}
-use mathlib.Core.Path.{◌≡◌, refl, sym, ◌∙◌}
-use native.Mathlib.Omega.{arith}
-use borrow.Author.Rules.{rules}
+use mathlib.Core.Path.{◌≡◌}
 use Rattle.rules.specs.Form as form
 use Rattle.names.specs.Marks.{marked}
-use Rattle.tree.specs.Search.{search-on, search-stop, search-end}
-use Rattle.checker.specs.Prepared.{not_marked, is_marked}
-use Rattle.checker.proofs.first_unmarked.Lts as lts
-
 use Rattle.checker.proofs.first_unmarked.Given as goal
 
 abbrev pub invariant-loop-x : goal.invariant-loop-x

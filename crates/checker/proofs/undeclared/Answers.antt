@@ -2,8 +2,6 @@
 use mathlib.Core.Path.{◌∙◌}
 use Rattle.records.specs.Records.{as_procedure}
 use Rattle.checker.specs.Prepared.{undeclared_is}
-use borrow.Author.Rules.{rules}
-
 use Rattle.checker.proofs.undeclared.Goals as goal
 
 pub returns : goal.returns

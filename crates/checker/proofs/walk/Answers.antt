@@ -1,14 +1,8 @@
 -- The walk from 0 is the walk from p: the procedures before p are accepted.
-use Prim.Native.Nat.{◌-◌, ◌≤◌}
-use mathlib.Core.Path.{◌≡◌, sym, ap, ◌∙◌}
+use mathlib.Core.Path.{sym, ap, ◌∙◌}
 use native.Mathlib.Omega.{arith}
-use borrow.Author.Rules.{rules}
-use Rattle.rules.specs.Image.{Header, Parts}
 use Rattle.rules.specs.Form as form
-use Rattle.rules.specs.Walk.{walk_refusal}
-use Rattle.rules.specs.Check.{slow}
-use Rattle.checker.specs.Prepared.{Prepared, walk_begins, walk_on, walk_stops, walk_ends}
-
+use Rattle.checker.specs.Prepared.{walk_on, walk_stops, walk_ends}
 use Rattle.checker.proofs.walk.Goals as goal
 
 pub returns-then-v-ne0 : goal.returns-then-v-ne0

@@ -1,14 +1,9 @@
 use Prim.Native.Nat.{◌-◌, ◌≤◌}
-use mathlib.Core.Path.{◌≡◌, sym, ap, ◌∙◌}
-use native.Mathlib.Omega.{arith}
-use borrow.Author.Rules.{rules}
+use mathlib.Core.Path.{◌≡◌}
 use Rattle.rules.specs.Image.{Header, Parts}
-use Rattle.rules.specs.Form as form
 use Rattle.rules.specs.Walk.{walk_refusal}
 use Rattle.rules.specs.Check.{slow}
-use Rattle.checker.specs.Prepared.{Prepared, walk_begins, walk_on, walk_stops, walk_ends}
-use Rattle.checker.proofs.walk.Lts as lts
-
+use Rattle.checker.specs.Prepared.{Prepared}
 use Rattle.checker.proofs.walk.Given as goal
 
 abbrev pub invariant-loop-p : goal.invariant-loop-p

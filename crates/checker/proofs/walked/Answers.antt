@@ -1,12 +1,9 @@
 -- The lent parts are the image's, and its header says where they stand.
 use mathlib.Core.Path.{ap, ◌∙◌}
-use native.Mathlib.Omega.{arith}
 use Rattle.rules.specs.Image.{Header, header_of, parts_of}
 use Rattle.rules.specs.Walk.{walk_refusal}
 use Rattle.rules.specs.Check.{slow}
 use Rattle.checker.specs.Prepared.{prepared_by}
-use borrow.Author.Rules.{rules}
-
 use Rattle.checker.proofs.walked.Goals as goal
 
 pub walk-requires : goal.walk-requires

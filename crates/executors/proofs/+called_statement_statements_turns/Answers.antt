@@ -1,20 +1,14 @@
 -- The cycle of executors. What falls: the procedure's number, then what lies behind the node; a list forward goes to larger nodes,
 -- and a for's turns are counted down from the steps that are left.
 -- Each way out of a member is one law of specs/: a statement's rest (Doing), a list (Lists, Forward), the turns of a for (Loop), a call (Calls).
-use mathlib.Core.Path.{refl, sym, ap, ◌∙◌}
+use mathlib.Core.Path.{sym, ap, ◌∙◌}
 use native.Mathlib.Omega.{arith}
-use borrow.Author.Rules.{rules}
-use Rattle.rules.specs.Image.{procedure_of}
-use Rattle.expressions.specs.Relations.{direction_of}
-use Rattle.executors.specs.Doing.{finished, led, ran-same}
-use Rattle.executors.specs.Ways.{statement_rank, statements_rank, turns_rank, called_rank}
+use Rattle.executors.specs.Doing.{led, ran-same}
 use Rattle.executors.specs.Nodes.{next-behind, next-chain}
 use Rattle.executors.specs.Lists.{both-refused, both-on, none, fine_first, fine_rest, list_inverse, end_ran}
-use Rattle.executors.specs.Forward.{Follows, follows_starts, follows_ends, follows_stops, followed_on}
-use Rattle.executors.specs.Loop.{Keeps, turned-starts, turned_on, loop_stops, loop_ends, no_turn, turn_refused, body_refused, met_first}
+use Rattle.executors.specs.Forward.{follows_ends, follows_stops, followed_on}
+use Rattle.executors.specs.Loop.{turned_on, loop_stops, loop_ends, no_turn, turn_refused, body_refused, met_first}
 use Rattle.executors.specs.Calls.{rows_below, call_refused, call_on}
-use Prim.Native.Nat.{ℕ, ◌-◌, ◌<◌}
-
 use Rattle.executors.proofs.+called_statement_statements_turns.Goals as goal
 
 pub called-returns-then-refusal-ne0 : goal.called-returns-then-refusal-ne0

@@ -1,5 +1,5 @@
 -- A body's calls go to an earlier procedure, a child has a larger number, and a loop's turns take steps of what is left.
-use Rattle.std.proofs.Common.{◌-◌, ◌≡◌, ℕ, ◌<◌}
+use Rattle.std.proofs.Common.{◌-◌}
 use Rattle.expressions.specs.Relations.{direction_of}
 use Rattle.executors.specs.Ways.{statement_rank, statements_rank, turns_rank, called_rank}
 use Rattle.executors.specs.Forward.{Follows}

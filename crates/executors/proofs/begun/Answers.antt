@@ -2,8 +2,6 @@
 use mathlib.Core.Path.{sym, ◌∙◌}
 use Rattle.expressions.specs.Relations.{direction_of}
 use Rattle.executors.specs.Nodes.{statement_case_lem, opened_at, never_refused, means_at, begin-refused, begin-on}
-use borrow.Author.Rules.{rules}
-
 use Rattle.executors.proofs.begun.Goals as goal
 
 pub returns-then-refusal-ne0 : goal.returns-then-refusal-ne0

@@ -1,12 +1,9 @@
 -- One law for each case of the node; what its fields refer to is what the called functions ask.
-use mathlib.Core.Path.{refl, sym}
 use native.Mathlib.Omega.{arith}
 use Rattle.rules.specs.Image.{is_expression}
 use Rattle.expressions.specs.Relations.{direction_of}
 use Rattle.executors.specs.Nodes.{child_statement, child_chain, child_readable, child_arguments, chain_behind, target_indexed, not_statement}
 use Rattle.executors.specs.Leaves.{empty-done, update_done, swap_done, conditional_done, call_left, uncall_left, block-left, if_left, for_within, for_forward, for_inverse}
-use borrow.Author.Rules.{rules}
-
 use Rattle.executors.proofs.performed.Goals as goal
 
 pub update-requires : goal.update-requires
@@ -42,7 +39,7 @@ returns-in-Update c =
     record {
       sound = tt;
       performs = λ procedures w p ρ st is m fine.
-      update_done w st _ _ fine _ _ _ _ _ _ c.in-Update.target c.in-Update.value c.in-Update.operator (rw c.in-Update.is at m) (λ g. c.update.ensures w.h w.s w.program g);
+          update_done w st _ _ fine _ _ _ _ _ _ c.in-Update.target c.in-Update.value c.in-Update.operator (rw c.in-Update.is at m) (λ g. c.update.ensures w.h w.s w.program g);
     }
 
 pub returns-in-Swap : goal.returns-in-Swap
@@ -50,7 +47,7 @@ returns-in-Swap c =
     record {
       sound = tt;
       performs = λ procedures w p ρ st is m fine.
-      swap_done w st _ _ fine _ _ _ _ _ _ c.in-Swap.left c.in-Swap.right (rw c.in-Swap.is at m) (c.swap.ensures w.h w.s w.program);
+          swap_done w st _ _ fine _ _ _ _ _ _ c.in-Swap.left c.in-Swap.right (rw c.in-Swap.is at m) (c.swap.ensures w.h w.s w.program);
     }
 
 pub returns-in-ConditionalSwap : goal.returns-in-ConditionalSwap
@@ -58,7 +55,7 @@ returns-in-ConditionalSwap c =
     record {
       sound = tt;
       performs = λ procedures w p ρ st is m fine.
-      conditional_done w st _ _ fine _ _ _ _ _ _ c.in-ConditionalSwap.left c.in-ConditionalSwap.right c.in-ConditionalSwap.condition (rw c.in-ConditionalSwap.is at m) (c.conditional_swap.ensures w.h w.s w.program);
+          conditional_done w st _ _ fine _ _ _ _ _ _ c.in-ConditionalSwap.left c.in-ConditionalSwap.right c.in-ConditionalSwap.condition (rw c.in-ConditionalSwap.is at m) (c.conditional_swap.ensures w.h w.s w.program);
     }
 
 pub returns-in-If : goal.returns-in-If

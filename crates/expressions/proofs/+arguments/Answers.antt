@@ -1,12 +1,9 @@
 -- Each way out is one law of Lent. The measure is the distance from the last number: what follows an argument goes to a larger one, or is missing.
-use Prim.Native.Nat.{◌-◌, ℕ, ◌<◌}
 use mathlib.Core.Path.{refl, sym, ap, ◌∙◌}
 use native.Mathlib.Omega.{arith}
-use borrow.Author.Rules.{rules}
 use Rattle.rules.specs.Tree.{Reading, reading_at}
 use Rattle.expressions.specs.Meaning.{program-missing, argument_place, argument_indexed, argument_found, next-falls, next-chained}
 use Rattle.expressions.proofs.Lent.{lends_none, lends_refused, lends_on}
-
 use Rattle.expressions.proofs.+arguments.Goals as goal
 
 pub returns-then-n-eq65535 : goal.returns-then-n-eq65535
@@ -19,9 +16,9 @@ returns-then-n-eq65535 t c =
 
 pub returns-in_default : goal.returns-in_default
 returns-in_default t c = record {
-      left_value = refl;
-      apart = λ h s p ρ lo hi agree within below. absurd (argument_found (c.requires.chained c.if-n-eq65535.false) (sym c.lvalue_at.ensures ∙ c.in_default.is));
-    }
+  left_value = refl;
+  apart = λ h s p ρ lo hi agree within below. absurd (argument_found (c.requires.chained c.if-n-eq65535.false) (sym c.lvalue_at.ensures ∙ c.in_default.is));
+}
 
 pub returns-then-refusal-ne0 : goal.returns-then-refusal-ne0
 returns-then-refusal-ne0 t c =
@@ -40,6 +37,7 @@ returns t c =
           c.lend.new.slots c.lend.auto.slots c.lend.ensures.0 (λ small room. c.lend.ensures.1 small room h s) c.after-2.result c.arguments.result c.arguments.new.slots c.after-2.ensures.entries_are
           (c.arguments.ensures.apart h s p ρ lo hi);
     }
+
 pub address-at-requires : goal.address-at-requires
 address-at-requires t c =
     let placed = sym c.lvalue_at.ensures ∙ c.in-Place.is in

@@ -1,5 +1,4 @@
 -- A node is decoded once; each way out is one law of Values for its case. The measure is the distance from the last number: references go to larger ones.
-use Prim.Native.Nat.{◌-◌, ℕ, ◌<◌}
 use mathlib.Core.Path.{sym, ap, ◌∙◌}
 use native.Mathlib.Omega.{arith}
 use borrow.Author.Rules.{rules}
@@ -9,12 +8,11 @@ use Rattle.expressions.specs.Meaning.{readable_not_refused}
 use Rattle.expressions.proofs.Values.{index-falls, left_falls, right_falls, operand_falls, value_number, value_named, value_entry, value_size, value_left_refused, value_binary, value_not}
 use Rattle.expressions.proofs.Targets.{element-entry, unsafe_entry}
 use Rattle.expressions.proofs.Cases.{case_no_other}
-
 use borrow.Enum.Refused.{opened}
 use Rattle.expressions.proofs.+value.Goals as goal
 
 pub returns-in_default : goal.returns-in_default
-returns-in_default t c =     λ h s p. absurd (readable_not_refused c.requires _ _ (sym c.expression_at.ensures ∙ c.in_default.is))
+returns-in_default t c = λ h s p. absurd (readable_not_refused c.requires _ _ (sym c.expression_at.ensures ∙ c.in_default.is))
 
 pub value-at-requires : goal.value-at-requires
 value-at-requires t c =
@@ -93,4 +91,4 @@ returns-in-Not t c =
     λ h s p. value_not c.requires _ _ h s p _ decoded (c.value.ensures h s p) c.negated.ensures
 
 pub returns-in_default-node : goal.returns-in_default-node
-returns-in_default-node t c =     λ h s p. absurd (case_no_other c.requires _ (sym c.expression_at.ensures ∙ c.in-Is.is) (opened c.in_default-node.in_default-node-own.keys6))
+returns-in_default-node t c = λ h s p. absurd (case_no_other c.requires _ (sym c.expression_at.ensures ∙ c.in-Is.is) (opened c.in_default-node.in_default-node-own.keys6))

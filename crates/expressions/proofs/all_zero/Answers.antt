@@ -1,11 +1,7 @@
 -- What is left to test decides, whatever was tested: the loop is its own tail.
-use Prim.Native.Nat.{◌+◌, ◌-◌, ◌≤◌}
-use mathlib.Core.Path.{◌≡◌, sym, ◌∙◌}
+use mathlib.Core.Path.{sym, ◌∙◌}
 use native.Mathlib.Omega.{arith}
-use borrow.Author.Rules.{rules}
-use Rattle.rules.specs.Machine.{zeros}
 use Rattle.expressions.proofs.Laws.{zeros-more, zeros-not, zeros-none}
-
 use Rattle.expressions.proofs.all_zero.Goals as goal
 
 pub returns-then-v-ne0 : goal.returns-then-v-ne0

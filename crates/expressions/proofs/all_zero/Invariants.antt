@@ -1,10 +1,6 @@
-use Prim.Native.Nat.{◌+◌, ◌-◌, ◌≤◌}
-use mathlib.Core.Path.{◌≡◌, sym, ◌∙◌}
-use native.Mathlib.Omega.{arith}
-use borrow.Author.Rules.{rules}
+use Prim.Native.Nat.{◌-◌, ◌≤◌}
+use mathlib.Core.Path.{◌≡◌}
 use Rattle.rules.specs.Machine.{zeros}
-use Rattle.expressions.proofs.Laws.{zeros-more, zeros-not, zeros-none}
-
 use Rattle.expressions.proofs.all_zero.Given as goal
 
 abbrev pub invariant-loop-at : goal.invariant-loop-at

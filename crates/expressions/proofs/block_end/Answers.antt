@@ -2,10 +2,7 @@
 use Prim.Native.Nat.{◌+◌, ◌-◌}
 use mathlib.Core.Path.{◌≡◌, sym, ◌∙◌}
 use native.Mathlib.Omega.{arith}
-use borrow.Author.Tests.{not-true, not-false}
-use borrow.Author.Rules.{rules}
 use Rattle.expressions.proofs.Laws.{block-public, block-secret, block-done}
-
 use Rattle.expressions.proofs.block_end.Goals as goal
 
 pub returns-then-not-cleared : goal.returns-then-not-cleared

@@ -1,14 +1,7 @@
 -- What is left to test decides, whatever was tested: the loop is its own tail.
-use Prim.Native.Nat.{◌-◌, ◌≤◌}
-use mathlib.Core.Path.{◌≡◌, refl, sym, ◌∙◌}
+use mathlib.Core.Path.{sym, ◌∙◌}
 use native.Mathlib.Omega.{arith}
-use borrow.Author.Rules.{rules}
-use borrow.Author.Tests.{not-true, not-false}
-use Rattle.rules.specs.Machine as machine
-use Rattle.rules.specs.Tree.{range}
-use Rattle.expressions.specs.Relations.{slot_of}
 use Rattle.expressions.proofs.Laws.{cleared_more, cleared-not, cleared-none}
-
 use Rattle.expressions.proofs.cleared.Goals as goal
 
 pub returns-then-not-passes : goal.returns-then-not-passes

@@ -1,13 +1,8 @@
 use Prim.Native.Nat.{◌-◌, ◌≤◌}
-use mathlib.Core.Path.{◌≡◌, refl, sym, ◌∙◌}
-use native.Mathlib.Omega.{arith}
-use borrow.Author.Rules.{rules}
-use borrow.Author.Tests.{not-true, not-false}
+use mathlib.Core.Path.{◌≡◌}
 use Rattle.rules.specs.Machine as machine
 use Rattle.rules.specs.Tree.{range}
 use Rattle.expressions.specs.Relations.{slot_of}
-use Rattle.expressions.proofs.Laws.{cleared_more, cleared-not, cleared-none}
-
 use Rattle.expressions.proofs.cleared.Given as goal
 
 abbrev pub invariant-loop-x : goal.invariant-loop-x

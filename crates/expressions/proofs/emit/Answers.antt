@@ -1,7 +1,6 @@
 -- The slice shows one event more, and the count is one more or the largest.
 use borrow.Author.Rules.{rules}
 use Rattle.expressions.specs.Trace.{traced_more, traced_most}
-
 use Rattle.expressions.proofs.emit.Goals as goal
 
 pub returns-then-entries-lt18446744073709551615 : goal.returns-then-entries-lt18446744073709551615

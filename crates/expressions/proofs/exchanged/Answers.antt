@@ -1,7 +1,5 @@
 -- Both cells are written and emitted, as the rules exchange them.
-use borrow.Author.Rules.{rules}
 use Rattle.expressions.proofs.Laws.{exchange-done}
-
 use Rattle.expressions.proofs.exchanged.Goals as goal
 
 pub returns : goal.returns

@@ -1,7 +1,5 @@
 -- A refusal stays; then the cell is loaded.
-use borrow.Author.Rules.{rules}
 use Rattle.expressions.specs.Laws.{then_refused, got_on}
-
 use Rattle.expressions.proofs.fetched.Goals as goal
 
 pub returns-then-refusal-ne0 : goal.returns-then-refusal-ne0

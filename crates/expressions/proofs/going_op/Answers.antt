@@ -1,8 +1,6 @@
 -- The direction picks the update or the one that undoes it.
-use borrow.Author.Rules.{rules}
 use Rattle.rules.specs.Words.{going}
 use Rattle.expressions.specs.Relations.{direction_of}
-
 use Rattle.expressions.proofs.going_op.Goals as goal
 
 pub returns-then-inverse : goal.returns-then-inverse

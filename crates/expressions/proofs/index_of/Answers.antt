@@ -1,7 +1,5 @@
 -- Each case has its index, or none.
-use borrow.Author.Rules.{rules}
 use Rattle.expressions.specs.Relations.{index_of}
-
 use Rattle.expressions.proofs.index_of.Goals as goal
 
 pub returns-in-Variable : goal.returns-in-Variable

@@ -1,10 +1,8 @@
 -- A refusal stays; then the test of the index picks the side of the rules.
 use native.Mathlib.Omega.{arith}
-use borrow.Author.Rules.{rules}
 use lib.Dec.{lit<}
 use Rattle.expressions.specs.Laws.{then_refused, got_on}
 use Rattle.expressions.proofs.Laws.{inside_found, inside-refused}
-
 use Rattle.expressions.proofs.indexed.Goals as goal
 
 pub returns-then-refusal-ne0 : goal.returns-then-refusal-ne0

@@ -1,7 +1,5 @@
 -- What the cell has, and its event.
-use borrow.Author.Rules.{rules}
 use Rattle.expressions.proofs.Laws.{loaded_on}
-
 use Rattle.expressions.proofs.loaded.Goals as goal
 
 pub returns : goal.returns

@@ -3,7 +3,6 @@ use mathlib.Core.Path.{sym, ap, ◌∙◌}
 use borrow.Author.Rules.{rules}
 use Rattle.rules.specs.Image.{Variable, variable_of, constant_of}
 use Rattle.expressions.proofs.Laws.{named-constant, named-cell}
-
 use Rattle.expressions.proofs.named.Goals as goal
 
 pub returns-then-kind-eq2 : goal.returns-then-kind-eq2

@@ -1,8 +1,6 @@
 -- A refusal stays; then the value is negated.
-use borrow.Author.Rules.{rules}
 use Rattle.expressions.specs.Laws.{then_refused, got_on}
 use Rattle.expressions.proofs.Laws.{found_plain}
-
 use Rattle.expressions.proofs.negated.Goals as goal
 
 pub returns-then-refusal-ne0 : goal.returns-then-refusal-ne0

@@ -1,8 +1,6 @@
 -- The two secrecies decide as in the rules.
 use mathlib.Core.Path.{sym, ◌∙◌}
-use borrow.Author.Rules.{rules}
 use Rattle.expressions.specs.Commands.{passing}
-
 use Rattle.expressions.proofs.passes.Goals as goal
 
 pub returns-then-hidden : goal.returns-then-hidden

@@ -1,7 +1,5 @@
 -- Each case names its root.
-use borrow.Author.Rules.{rules}
 use Rattle.expressions.specs.Relations.{root_of}
-
 use Rattle.expressions.proofs.root_of.Goals as goal
 
 pub returns-in-Variable : goal.returns-in-Variable

@@ -1,7 +1,5 @@
 -- No step is left, or one fewer after the event.
-use borrow.Author.Rules.{rules}
 use Rattle.expressions.proofs.Laws.{step-out, step-taken}
-
 use Rattle.expressions.proofs.step.Goals as goal
 
 pub returns-then-left-eq0 : goal.returns-then-left-eq0

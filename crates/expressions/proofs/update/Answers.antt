@@ -1,10 +1,8 @@
 -- A cell and a value are found one after the other, and then the cell is changed.
-use borrow.Author.Rules.{rules}
 use Rattle.expressions.specs.Relations.{slot_of}
 use Rattle.expressions.specs.Commands.{updating}
 use Rattle.expressions.specs.Laws.{first_refused, second_refused, second_on}
 use Rattle.expressions.proofs.Targets.{update_as}
-
 use Rattle.expressions.proofs.update.Goals as goal
 
 pub returns-then-refusal-ne0 : goal.returns-then-refusal-ne0
@@ -13,7 +11,7 @@ returns-then-refusal-ne0 c = λ h s p good. first_refused _ _ _ _ (c.address-at.
 
 pub returns-then-trouble-ne0 : goal.returns-then-trouble-ne0
 unfolding updating
-returns-then-trouble-ne0 c =     λ h s p good. second_refused _ _ _ _ (c.address-at.ensures.1 h s p) c.if-refusal-ne0.false _ (c.value-v.ensures h s p) c.after-then-trouble-ne0.ensures c.if-trouble-ne0.true
+returns-then-trouble-ne0 c = λ h s p good. second_refused _ _ _ _ (c.address-at.ensures.1 h s p) c.if-refusal-ne0.false _ (c.value-v.ensures h s p) c.after-then-trouble-ne0.ensures c.if-trouble-ne0.true
 
 pub returns : goal.returns
 unfolding updating

@@ -1,7 +1,5 @@
 -- Four writes, one after the other.
-use borrow.Author.Rules.{rules}
 use Rattle.expressions.specs.Relations.{written}
-
 use Rattle.expressions.proofs.write_row.Goals as goal
 
 pub returns : goal.returns

@@ -1,7 +1,6 @@
 -- Each test on the way picks the definition's side.
 use borrow.Author.Tests.{eq-eqb, ne_eqb}
 use Rattle.rules.specs.Form.{extra_fits}
-
 use Rattle.form.proofs.extra_fits.Goals as goal
 
 pub returns-then-v-parameter : goal.returns-then-v-parameter

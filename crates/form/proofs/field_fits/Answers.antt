@@ -1,8 +1,6 @@
 -- An arm's key picks the definition's choice; in the last arm each key is shut out.
 use borrow.Author.Tests.{ne_eqb}
-use borrow.Author.Rules.{rules}
 use Rattle.rules.specs.Form.{field_fits}
-
 use Rattle.form.proofs.field_fits.Goals as goal
 
 pub returns-in-0 : goal.returns-in-0

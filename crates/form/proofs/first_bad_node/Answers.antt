@@ -1,14 +1,9 @@
 -- A search: the record of every node before n fits.
 use mathlib.Core.Path.{sym, ap, ◌∙◌}
-use Prim.Native.Nat.{◌-◌}
-use borrow.Author.Rules.{rules}
-use borrow.Author.Tests.{not-true, not-false}
 use Rattle.rules.specs.Image as rules
 use Rattle.records.specs.Records.{as_header}
-use Rattle.tree.specs.Search.{Searching, search-first, search-next, search-found, search-none}
+use Rattle.tree.specs.Search.{search-next, search-found, search-none}
 use Rattle.rules.specs.Form.{record_fits}
-use Rattle.form.specs.Tests.{record_fits_at}
-
 use Rattle.form.proofs.first_bad_node.Goals as goal
 
 pub returns-then-not-record_fits : goal.returns-then-not-record_fits

@@ -1,15 +1,9 @@
 -- A search that keeps how many variables are shared out: where a record fits, its range ends there.
-use mathlib.Core.Path.{◌≡◌, refl, sym, ◌∙◌}
-use Prim.Native.Nat.{◌-◌}
+use mathlib.Core.Path.{refl, sym, ◌∙◌}
 use native.Mathlib.Omega.{arith}
-use borrow.Author.Rules.{rules}
-use borrow.Author.Tests.{not-true, not-false}
-use Rattle.rules.specs.Image as rules
-use Rattle.records.specs.Records.{as_header}
-use Rattle.tree.specs.Search.{Searching, search-first, search-next, search-found, search-none}
-use Rattle.rules.specs.Form.{procedure_fits, shared_before}
+use Rattle.tree.specs.Search.{search-first, search-next, search-found, search-none}
+use Rattle.rules.specs.Form.{shared_before}
 use Rattle.form.specs.Tests.{procedure_fits-is, procedure-within, procedure-shared}
-
 use Rattle.form.proofs.first_bad_procedure.Goals as goal
 
 pub loop-p-init : goal.loop-p-init

@@ -1,14 +1,8 @@
-use mathlib.Core.Path.{◌≡◌, refl, sym, ◌∙◌}
+use mathlib.Core.Path.{◌≡◌}
 use Prim.Native.Nat.{◌-◌}
-use native.Mathlib.Omega.{arith}
-use borrow.Author.Rules.{rules}
-use borrow.Author.Tests.{not-true, not-false}
-use Rattle.rules.specs.Image as rules
 use Rattle.records.specs.Records.{as_header}
-use Rattle.tree.specs.Search.{Searching, search-first, search-next, search-found, search-none}
+use Rattle.tree.specs.Search.{Searching}
 use Rattle.rules.specs.Form.{procedure_fits, shared_before}
-use Rattle.form.specs.Tests.{procedure_fits-is, procedure-within, procedure-shared}
-
 use Rattle.form.proofs.first_bad_procedure.Given as goal
 
 abbrev pub invariant-loop-p : goal.invariant-loop-p

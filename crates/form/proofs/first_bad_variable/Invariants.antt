@@ -1,12 +1,7 @@
-use mathlib.Core.Path.{sym, ◌∙◌}
 use Prim.Native.Nat.{◌-◌}
-use borrow.Author.Rules.{rules}
-use borrow.Author.Tests.{not-true, not-false}
-use Rattle.rules.specs.Image as rules
 use Rattle.records.specs.Records.{as_header}
-use Rattle.tree.specs.Search.{Searching, search-first, search-next, search-found, search-none}
-use Rattle.form.specs.Tests.{variable_fits_at, variable_fits-is}
-
+use Rattle.tree.specs.Search.{Searching}
+use Rattle.form.specs.Tests.{variable_fits_at}
 use Rattle.form.proofs.first_bad_variable.Given as goal
 
 abbrev pub invariant-loop-x : goal.invariant-loop-x

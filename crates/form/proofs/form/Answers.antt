@@ -1,9 +1,7 @@
 -- One test after another; an accepted layout gives the bounds of the parts.
-use borrow.Author.Rules.{rules}
 use Rattle.records.specs.Records.{as_header}
 use Rattle.tree.specs.Search.{then_stops, then_goes}
 use Rattle.form.specs.Layout.{laid_by, layout_is, form_is}
-
 use Rattle.form.proofs.form.Goals as goal
 
 pub returns-then-first-ne0 : goal.returns-then-first-ne0

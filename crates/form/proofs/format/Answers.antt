@@ -1,8 +1,6 @@
 -- The code's test is the definition's, with the format read by its reader.
 use mathlib.Core.Path.{◌∙◌}
-use borrow.Author.Rules.{rules}
 use Rattle.rules.specs.Form.{format_refusal}
-
 use Rattle.form.proofs.format.Goals as goal
 
 pub returns : goal.returns

@@ -2,10 +2,8 @@
 use mathlib.Core.Path.{ap}
 use Prim.Native.Nat.{◌+◌}
 use lib.Dec.{ltb}
-use borrow.Author.Rules.{rules}
 use Rattle.rules.specs.Image as rules
 use Rattle.rules.specs.Form.{is_parameter}
-
 use Rattle.form.proofs.is_parameter.Goals as goal
 
 pub returns : goal.returns

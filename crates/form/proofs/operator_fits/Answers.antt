@@ -1,7 +1,6 @@
 -- The test picks the definition's side.
 use borrow.Author.Tests.{eq-eqb, ne_eqb}
 use Rattle.rules.specs.Form.{operator_fits}
-
 use Rattle.form.proofs.operator_fits.Goals as goal
 
 pub returns-then-operators-eq0 : goal.returns-then-operators-eq0

@@ -1,13 +1,11 @@
 -- A search: every procedure before p ends at x or before.
 use mathlib.Core.Path.{sym, ap, ◌∙◌}
-use Prim.Native.Nat.{◌+◌, ◌-◌}
-use borrow.Author.Rules.{rules}
+use Prim.Native.Nat.{◌+◌}
 use borrow.Author.Tests.{lt-leb, le-leb}
 use lib.Dec.{leb}
 use Rattle.rules.specs.Image as rules
-use Rattle.tree.specs.Search.{Searching, search-first, search-next, search-found, search-none}
+use Rattle.tree.specs.Search.{search-next, search-found, search-none}
 use Rattle.rules.specs.Form.{owner}
-
 use Rattle.form.proofs.owner.Goals as goal
 
 pub returns-then-x-r : goal.returns-then-x-r

@@ -1,7 +1,5 @@
 -- Each part's end is its test's result.
-use borrow.Author.Rules.{rules}
 use Rattle.rules.specs.Form.{parts_follow}
-
 use Rattle.form.proofs.parts_follow.Goals as goal
 
 pub returns : goal.returns

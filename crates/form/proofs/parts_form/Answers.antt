@@ -1,11 +1,9 @@
 -- One test after another: the first that refuses, or what follows.
 use mathlib.Core.Path.{◌∙◌}
-use borrow.Author.Rules.{rules}
 use Rattle.rules.specs.Form.{procedure_refusal, variable_refusal, node_refusal}
 use Rattle.rules.specs.Tree.{tree_refusal, reference_refusal, place_refusal, depths, chained}
 use Rattle.rules.specs.Check.{form_refusal}
 use Rattle.tree.specs.Search.{lowest-is, then_stops, then_goes}
-
 use Rattle.form.proofs.parts_form.Goals as goal
 
 pub returns-then-third-ne0 : goal.returns-then-third-ne0

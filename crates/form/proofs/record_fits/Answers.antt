@@ -1,11 +1,9 @@
 -- The classes of the row one by one, and the six equations of the callees joined by the law of a record's tests.
 use mathlib.Core.Path.{ap}
-use borrow.Author.Rules.{rules}
 use Rattle.records.specs.Records.{as_header, as_node}
 use Rattle.records.specs.declared.Classes.{Classes}
 use Rattle.form.specs.Tests.{record_fits-by}
 use Rattle.rules.specs.Form.{record_fits}
-
 use Rattle.form.proofs.record_fits.Goals as goal
 
 pub returns : goal.returns

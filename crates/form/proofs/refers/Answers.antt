@@ -1,7 +1,5 @@
 -- The referred kind is its reader's result.
-use borrow.Author.Rules.{rules}
 use Rattle.rules.specs.Form.{refers}
-
 use Rattle.form.proofs.refers.Goals as goal
 
 pub returns : goal.returns

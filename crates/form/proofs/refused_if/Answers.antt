@@ -1,6 +1,5 @@
 -- The test picks the definition's side.
 use Rattle.rules.specs.Form.{given}
-
 use Rattle.form.proofs.refused_if.Goals as goal
 
 pub returns-then-broken : goal.returns-then-broken

@@ -1,7 +1,5 @@
 -- The two callees' results stand in the definition's conjunction.
-use borrow.Author.Rules.{rules}
 use Rattle.rules.specs.Form.{variable_fits}
-
 use Rattle.form.proofs.variable_fits.Goals as goal
 
 pub returns : goal.returns

@@ -1,15 +1,11 @@
 -- The roots that a statement changes stand where its case says; what it refers to has a larger number.
 use Rattle.names.specs.Statements.{begun, known_begun, begun-behind, changed-empty, changed-update, changed-swap, changed-conditional, changed-if, changed-for, changed-call, changed-uncall, changed_block, changed-list, changed-none, update_target, swap_left, swap_right, conditional_left, conditional_right}
-use borrow.Author.Rules.{rules}
-use mathlib.Core.Path.{◌≡◌, refl, sym, ◌∙◌}
-use Prim.Native.Nat.{◌+◌, ◌-◌, ◌*◌}
+use mathlib.Core.Path.{refl, sym, ◌∙◌}
 use native.Mathlib.Omega.{arith}
 use Rattle.names.specs.Marks.{touches_none, touches_one, touches_left, touches_right}
 use Rattle.names.specs.Sound.{never_refused, no_expression-arm, standing_child, refers, known_child, behind}
 use Rattle.names.specs.Expressions.{decoded}
-use Rattle.names.specs.Chains.{root-small, chain_standing, later_statements, known_statement, known_statements, statement-ahead}
-use Prim.Native.Nat.{ℕ, ◌<◌}
-
+use Rattle.names.specs.Chains.{root-small, chain_standing, later_statements, known_statements, statement-ahead}
 use Rattle.names.proofs.+changes_list_changes.Goals as goal
 
 pub changes-returns-in_default : goal.changes-returns-in_default

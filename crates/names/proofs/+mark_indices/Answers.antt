@@ -1,12 +1,8 @@
 -- Along the chain, one index after the other.
-use borrow.Author.Rules.{rules}
-use mathlib.Core.Path.{◌≡◌, refl, sym, ◌∙◌}
-use Prim.Native.Nat.{◌-◌}
+use mathlib.Core.Path.{sym, ◌∙◌}
 use native.Mathlib.Omega.{arith}
 use Rattle.names.specs.Marks.{adds_none, adds_both}
 use Rattle.names.specs.Chains.{chain_standing, no_other, no_indices, first_indices, argument_naming, later_arguments, known_argument, known_arguments, argument_ahead}
-use Prim.Native.Nat.{ℕ, ◌<◌}
-
 use Rattle.names.proofs.+mark_indices.Goals as goal
 
 pub returns-then-n-eq65535 : goal.returns-then-n-eq65535

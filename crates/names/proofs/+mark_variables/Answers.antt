@@ -1,15 +1,11 @@
 -- The names are marked where the node's case says that names stand; what the node refers to has a larger number.
 use borrow.Enum.Refused.{opened}
 use Rattle.names.specs.Marks.{adds_none, adds_both, adds_first}
-use borrow.Author.Rules.{rules}
-use mathlib.Core.Path.{◌≡◌, refl, sym, ap, ◌∙◌}
-use Prim.Native.Nat.{◌-◌}
+use mathlib.Core.Path.{sym, ◌∙◌}
 use native.Mathlib.Omega.{arith}
 use Rattle.names.specs.Marks.{adds_none, adds_both}
 use Rattle.names.specs.Sound.{never_refused, no_statement-arm, standing_child, refers, name_small, known_child, behind, known_index, behind_index}
 use Rattle.names.specs.Expressions.{decoded, decoded_value, names_constant, names_variable, names_element, names_unsafe, names_size, names_binary, names_not}
-use Prim.Native.Nat.{ℕ, ◌<◌}
-
 use Rattle.names.proofs.+mark_variables.Goals as goal
 
 pub returns-in_default : goal.returns-in_default

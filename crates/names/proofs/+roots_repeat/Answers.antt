@@ -1,12 +1,8 @@
 -- Along the chain to the first root that is marked; each root is marked as it is passed.
-use borrow.Author.Rules.{rules}
-use mathlib.Core.Path.{◌≡◌, refl, sym, ◌∙◌}
-use Prim.Native.Nat.{◌-◌}
+use mathlib.Core.Path.{refl, sym, ◌∙◌}
 use native.Mathlib.Omega.{arith}
 use Rattle.names.specs.Marks.{repeats-none, repeats-here, repeats-later}
 use Rattle.names.specs.Chains.{chain_standing, no_other, no_roots, first_root, argument_small, later_arguments, known_arguments, argument_ahead}
-use Prim.Native.Nat.{ℕ, ◌<◌}
-
 use Rattle.names.proofs.+roots_repeat.Goals as goal
 
 pub returns-then-n-eq65535 : goal.returns-then-n-eq65535

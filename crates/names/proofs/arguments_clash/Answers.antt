@@ -1,7 +1,5 @@
 -- The roots are marked as they are passed; then the indices are marked, and the roots looked up.
 use Rattle.names.specs.Marks.{clash_twice, clash_index}
-use borrow.Author.Rules.{rules}
-
 use Rattle.names.proofs.arguments_clash.Goals as goal
 
 pub returns-then-roots_repeat : goal.returns-then-roots_repeat

@@ -1,8 +1,5 @@
 -- One after the other.
-use mathlib.Core.Path.{◌≡◌, sym}
 use Rattle.names.specs.Marks.{touches_here, touches_later, touches_one}
-use borrow.Author.Rules.{rules}
-
 use Rattle.names.proofs.either_marked.Goals as goal
 
 pub returns-then-is_marked : goal.returns-then-is_marked

@@ -1,8 +1,6 @@
 -- A name by itself has no index.
 use Rattle.rules.specs.Tree.{index, member}
-use Rattle.names.specs.Chains.{standing_index, known_element, known_unsafe}
-use borrow.Author.Rules.{rules}
-
+use Rattle.names.specs.Chains.{standing_index}
 use Rattle.names.proofs.index_occurs.Goals as goal
 
 pub returns-in-Variable : goal.returns-in-Variable

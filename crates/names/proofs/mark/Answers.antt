@@ -1,8 +1,5 @@
 -- A name's own byte is set; past the last there is no name.
-use native.Mathlib.Omega.{arith}
 use Rattle.names.specs.Marks.{adds_one}
-use borrow.Author.Rules.{rules}
-
 use Rattle.names.proofs.mark.Goals as goal
 
 pub returns-then-i-lt1024 : goal.returns-then-i-lt1024

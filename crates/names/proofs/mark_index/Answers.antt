@@ -1,9 +1,7 @@
 -- A name by itself has no index.
 use Rattle.rules.specs.Tree.{index}
 use Rattle.names.specs.Marks.{adds_none}
-use Rattle.names.specs.Chains.{standing_index, known_element, known_unsafe}
-use borrow.Author.Rules.{rules}
-
+use Rattle.names.specs.Chains.{standing_index}
 use Rattle.names.proofs.mark_index.Goals as goal
 
 pub returns-in-Variable : goal.returns-in-Variable

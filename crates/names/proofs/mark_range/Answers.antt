@@ -1,12 +1,7 @@
 -- From the last name down, so that each marked name stands in front of those marked before.
-use Rattle.names.specs.Marks.{range_none, range-more, range_all}
+use Rattle.names.specs.Marks.{range_none, range-more}
 use borrow.Author.Rules.{rules}
-use mathlib.Core.Path.{◌≡◌, refl, sym, ap, ◌∙◌}
-use Prim.Native.Nat.{◌+◌, ◌-◌, ◌≤◌}
 use native.Mathlib.Omega.{arith}
-use Rattle.rules.specs.Tree.{range}
-use Rattle.names.specs.Marks.{Adds}
-
 use Rattle.names.proofs.mark_range.Goals as goal
 
 pub loop-left-init : goal.loop-left-init

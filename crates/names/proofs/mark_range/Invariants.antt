@@ -1,12 +1,6 @@
-use Rattle.names.specs.Marks.{range_none, range-more, range_all}
-use borrow.Author.Rules.{rules}
-use mathlib.Core.Path.{◌≡◌, refl, sym, ap, ◌∙◌}
 use Prim.Native.Nat.{◌+◌, ◌-◌, ◌≤◌}
-use native.Mathlib.Omega.{arith}
 use Rattle.rules.specs.Tree.{range}
 use Rattle.names.specs.Marks.{Adds}
-use Rattle.names.proofs.mark_range.Lts as lts
-
 use Rattle.names.proofs.mark_range.Given as goal
 
 abbrev pub invariant-loop-left : goal.invariant-loop-left

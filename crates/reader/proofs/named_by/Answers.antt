@@ -4,8 +4,6 @@ use mathlib.Core.Path.{◌≡◌, sym, ◌∙◌}
 use mathlib.Core.Bool.{true}
 use lib.Dec.{eqb}
 use Rattle.reader.specs.Blame.{named_by}
-use borrow.Author.Rules.{rules}
-
 use Rattle.reader.proofs.named_by.Goals as goal
 
 pub returns-then-number-eq3 : goal.returns-then-number-eq3

@@ -1,6 +1,5 @@
 -- The target's case, found from the record, picks the definition's side.
 use mathlib.Core.Path.{◌≡◌, sym, ap, ◌∙◌}
-use borrow.Author.Rules.{rules}
 use Rattle.rules.specs.Image as rules
 use Rattle.records.specs.Records.{headed}
 use Rattle.records.specs.Expressions.{lvalue-headed}
@@ -8,7 +7,6 @@ use Rattle.records.specs.Decode.{lvalue_by, lvalue_at}
 use Rattle.records.specs.declared.Target.TheVariants.{Place, Other}
 use Rattle.records.specs.declared.Decoded.TheVariants.{Is}
 use Rattle.records.specs.declared.Node.TheVariants.{Argument}
-
 use Rattle.records.proofs.argument_at.Goals as goal
 
 pub returns-in_default : goal.returns-in_default

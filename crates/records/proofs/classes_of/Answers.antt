@@ -2,9 +2,7 @@
 use mathlib.Core.Path.{refl}
 use mathlib.Core.List.{[]}
 use lib.ListN.{get_or-eq_default}
-use borrow.Author.Rules.{rules}
 use Rattle.rules.specs.Form.{fields}
-
 use Rattle.records.proofs.classes_of.Goals as goal
 
 pub returns-then-k-ge27 : goal.returns-then-k-ge27

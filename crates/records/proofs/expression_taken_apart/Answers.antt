@@ -1,14 +1,12 @@
 -- An arm's key picks the definition's choice; in the last arm each key is shut out, and the L-value's case decides.
 use mathlib.Core.Path.{◌≡◌, sym, ◌∙◌}
 use borrow.Author.Tests.{ne_eqb}
-use borrow.Author.Rules.{rules}
 use Rattle.std.proofs.Common.{ℕ, arith}
 use Rattle.rules.specs.Image.{Node}
 use Rattle.records.specs.Records.{as_head}
 use Rattle.records.specs.Decode.{lvalue_by, with_target, expression_by}
 use Rattle.records.specs.declared.Decoded.TheVariants.{Is}
 use Rattle.records.specs.declared.Node.TheVariants.{Value}
-
 use Rattle.records.proofs.expression_taken_apart.Goals as goal
 
 -- where the kind is none of the four

@@ -1,9 +1,7 @@
 -- The head's equation put into the decoder's.
 use mathlib.Core.Path.{ap, ◌∙◌}
-use borrow.Author.Rules.{rules}
 use Rattle.records.specs.Expressions.{lvalue-headed}
 use Rattle.records.specs.Decode.{lvalue_by}
-
 use Rattle.records.proofs.lvalue_at.Goals as goal
 
 pub returns : goal.returns

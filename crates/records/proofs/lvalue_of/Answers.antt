@@ -1,7 +1,6 @@
 -- An arm's key picks the definition's choice; in the last arm each key is shut out.
 use borrow.Author.Tests.{ne_eqb}
 use Rattle.records.specs.Decode.{lvalue_by}
-
 use Rattle.records.proofs.lvalue_of.Goals as goal
 
 pub returns-in-21 : goal.returns-in-21

@@ -1,10 +1,8 @@
 -- An arm's key picks the definition's choice; in the last arm each key is shut out.
 use mathlib.Core.Path.{ap, ◌∙◌}
 use borrow.Author.Tests.{ne_eqb}
-use borrow.Author.Rules.{rules}
 use Rattle.records.specs.Expressions.{expression-headed}
 use Rattle.records.specs.Decode.{expression_by, decoded_by}
-
 use Rattle.records.proofs.taken_apart.Goals as goal
 
 pub returns-in-1 : goal.returns-in-1

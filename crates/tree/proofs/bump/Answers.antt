@@ -2,9 +2,7 @@
 use mathlib.Core.Path.{sym}
 use borrow.Author.Tests.{lt-ltb, le-ltb}
 use lib.Seq.{set_out}
-use borrow.Author.Rules.{rules}
 use Rattle.tree.specs.Tally.{bumped, one_more}
-
 use Rattle.tree.proofs.bump.Goals as goal
 
 pub returns-then-old-lt2 : goal.returns-then-old-lt2

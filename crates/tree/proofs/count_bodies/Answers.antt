@@ -1,11 +1,8 @@
 -- The loop is its own tail: each turn counts one body more.
-use borrow.Author.Rules.{rules}
 use mathlib.Core.Path.{ap, ◌∙◌}
-use Prim.Native.Nat.{◌-◌}
 use Rattle.rules.specs.Image as rules
-use Rattle.tree.specs.Turns.{Turning, turn_first, turn_next, turn_last}
-use Rattle.tree.specs.Tally.{counted_bodies, bodies-steps, bumped}
-
+use Rattle.tree.specs.Turns.{turn_next, turn_last}
+use Rattle.tree.specs.Tally.{bodies-steps, bumped}
 use Rattle.tree.proofs.count_bodies.Goals as goal
 
 pub loop-p-preserved : goal.loop-p-preserved

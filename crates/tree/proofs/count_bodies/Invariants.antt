@@ -1,10 +1,6 @@
-use borrow.Author.Rules.{rules}
-use mathlib.Core.Path.{ap, ◌∙◌}
 use Prim.Native.Nat.{◌-◌}
-use Rattle.rules.specs.Image as rules
-use Rattle.tree.specs.Turns.{Turning, turn_first, turn_next, turn_last}
-use Rattle.tree.specs.Tally.{counted_bodies, bodies-steps, bumped}
-
+use Rattle.tree.specs.Turns.{Turning}
+use Rattle.tree.specs.Tally.{counted_bodies}
 use Rattle.tree.proofs.count_bodies.Given as goal
 
 abbrev pub invariant-loop-p : goal.invariant-loop-p

@@ -1,8 +1,6 @@
 -- The class decides whether there is one reference or none.
 use mathlib.Core.Path.{sym, ◌∙◌}
-use borrow.Author.Rules.{rules}
 use Rattle.tree.specs.Tally.{tally}
-
 use Rattle.tree.proofs.count_field.Goals as goal
 
 pub returns-then-is_reference : goal.returns-then-is_reference

@@ -1,10 +1,8 @@
 -- The classes of the row one by one, and the five equations of the callees joined by the law of a node's references.
 use mathlib.Core.Path.{ap}
-use borrow.Author.Rules.{rules}
 use Rattle.records.specs.Records.{as_node}
 use Rattle.records.specs.declared.Classes.{Classes}
 use Rattle.tree.specs.Tally.{node-tally}
-
 use Rattle.tree.proofs.count_node.Goals as goal
 
 pub returns : goal.returns

@@ -1,12 +1,9 @@
 -- The loop is its own tail: each turn counts one node more.
-use borrow.Author.Rules.{rules}
 use mathlib.Core.Path.{ap, ◌∙◌}
-use Prim.Native.Nat.{◌-◌}
 use Rattle.rules.specs.Tree.{references_of}
 use Rattle.rules.specs.Image as rules
-use Rattle.tree.specs.Turns.{Turning, turn_first, turn_next, turn_last}
-use Rattle.tree.specs.Tally.{counted_nodes, nodes_steps, tally}
-
+use Rattle.tree.specs.Turns.{turn_next, turn_last}
+use Rattle.tree.specs.Tally.{nodes_steps, tally}
 use Rattle.tree.proofs.count_nodes.Goals as goal
 
 pub loop-n-preserved : goal.loop-n-preserved

@@ -1,13 +1,7 @@
 -- A search: every node before n is counted once.
-use borrow.Author.Rules.{rules}
 use mathlib.Core.Path.{sym, ◌∙◌}
-use Prim.Native.Nat.{◌-◌}
-use lib.Dec.{eqb}
-use lib.ListN.{get_or}
 use borrow.Author.Tests.{eq-eqb, ne_eqb}
-use Rattle.tree.specs.Search.{Searching, search-first, search-next, search-found, search-none}
-use Rattle.rules.specs.Form as form
-
+use Rattle.tree.specs.Search.{search-next, search-found, search-none}
 use Rattle.tree.proofs.first_not_once.Goals as goal
 
 pub returns-then-u8_at-ne1 : goal.returns-then-u8_at-ne1

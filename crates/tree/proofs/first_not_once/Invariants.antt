@@ -1,12 +1,7 @@
-use borrow.Author.Rules.{rules}
-use mathlib.Core.Path.{sym, ◌∙◌}
 use Prim.Native.Nat.{◌-◌}
 use lib.Dec.{eqb}
 use lib.ListN.{get_or}
-use borrow.Author.Tests.{eq-eqb, ne_eqb}
-use Rattle.tree.specs.Search.{Searching, search-first, search-next, search-found, search-none}
-use Rattle.rules.specs.Form as form
-
+use Rattle.tree.specs.Search.{Searching}
 use Rattle.tree.proofs.first_not_once.Given as goal
 
 abbrev pub invariant-loop-n : goal.invariant-loop-n

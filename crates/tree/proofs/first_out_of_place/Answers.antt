@@ -1,12 +1,7 @@
 -- A search: every node before n stands in the tree by its marks.
 use mathlib.Core.Path.{sym, ◌∙◌}
-use Prim.Native.Nat.{◌-◌}
-use borrow.Author.Rules.{rules}
-use borrow.Author.Tests.{not-true, not-false}
-use Rattle.tree.specs.Search.{Searching, search-first, search-next, search-found, search-none}
-use Rattle.rules.specs.Form as form
-use Rattle.tree.specs.Hand.{stands_at, stands_same}
-
+use Rattle.tree.specs.Search.{search-next, search-found, search-none}
+use Rattle.tree.specs.Hand.{stands_same}
 use Rattle.tree.proofs.first_out_of_place.Goals as goal
 
 pub returns-then-not-stands : goal.returns-then-not-stands

@@ -1,11 +1,6 @@
-use mathlib.Core.Path.{sym, ◌∙◌}
 use Prim.Native.Nat.{◌-◌}
-use borrow.Author.Rules.{rules}
-use borrow.Author.Tests.{not-true, not-false}
-use Rattle.tree.specs.Search.{Searching, search-first, search-next, search-found, search-none}
-use Rattle.rules.specs.Form as form
-use Rattle.tree.specs.Hand.{stands_at, stands_same}
-
+use Rattle.tree.specs.Search.{Searching}
+use Rattle.tree.specs.Hand.{stands_at}
 use Rattle.tree.proofs.first_out_of_place.Given as goal
 
 abbrev pub invariant-loop-n : goal.invariant-loop-n

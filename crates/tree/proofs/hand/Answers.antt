@@ -1,9 +1,7 @@
 -- The class decides whether a mark is handed, and which.
 use mathlib.Core.Path.{sym, ◌∙◌}
-use borrow.Author.Rules.{rules}
 use Rattle.rules.specs.Tree.{handed}
 use Rattle.tree.specs.Hand.{child_by}
-
 use Rattle.tree.proofs.hand.Goals as goal
 
 pub returns-then-class : goal.returns-then-class

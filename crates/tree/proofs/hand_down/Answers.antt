@@ -1,11 +1,6 @@
 -- The loop is its own tail; a mark before node n is at most n + 1, so that one more fits.
-use Prim.Native.Nat.{◌+◌, ◌-◌}
-use native.Mathlib.Omega.{arith}
-use borrow.Author.Rules.{rules}
-use Rattle.rules.specs.Tree.{handed_down}
-use Rattle.tree.specs.Turns.{Turning, turn_first, turn_next, turn_last}
-use Rattle.tree.specs.Hand.{handing, AtMost, handed-steps, handed-turn, at-most-next}
-
+use Rattle.tree.specs.Turns.{turn_next, turn_last}
+use Rattle.tree.specs.Hand.{handed-steps, handed-turn, at-most-next}
 use Rattle.tree.proofs.hand_down.Goals as goal
 
 pub loop-n-preserved : goal.loop-n-preserved

@@ -1,10 +1,7 @@
 use Prim.Native.Nat.{◌+◌, ◌-◌}
-use native.Mathlib.Omega.{arith}
-use borrow.Author.Rules.{rules}
 use Rattle.rules.specs.Tree.{handed_down}
-use Rattle.tree.specs.Turns.{Turning, turn_first, turn_next, turn_last}
-use Rattle.tree.specs.Hand.{handing, AtMost, handed-steps, handed-turn, at-most-next}
-
+use Rattle.tree.specs.Turns.{Turning}
+use Rattle.tree.specs.Hand.{handing, AtMost}
 use Rattle.tree.proofs.hand_down.Given as goal
 
 abbrev pub invariant-loop-n : goal.invariant-loop-n

@@ -1,7 +1,6 @@
 -- The test picks the definition's side.
 use borrow.Author.Tests.{eq-eqb, ne_eqb}
 use Rattle.rules.specs.Form.{given}
-
 use Rattle.tree.proofs.lowest.Goals as goal
 
 pub returns-then-place-count : goal.returns-then-place-count

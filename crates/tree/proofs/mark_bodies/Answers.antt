@@ -1,12 +1,9 @@
 -- The loop is its own tail: each turn marks one body more.
-use borrow.Author.Rules.{rules}
 use lib.ListN.{set}
 use mathlib.Core.Path.{ap, ◌∙◌}
-use Prim.Native.Nat.{◌-◌}
 use Rattle.rules.specs.Image as rules
-use Rattle.tree.specs.Turns.{Turning, turn_first, turn_next, turn_last}
-use Rattle.tree.specs.Hand.{marked_bodies, marked-steps}
-
+use Rattle.tree.specs.Turns.{turn_next, turn_last}
+use Rattle.tree.specs.Hand.{marked-steps}
 use Rattle.tree.proofs.mark_bodies.Goals as goal
 
 pub loop-p-preserved : goal.loop-p-preserved

@@ -1,7 +1,5 @@
 -- The first marks of an array of zeros are zeros.
-use borrow.Author.Rules.{rules}
-use Rattle.tree.specs.Hand.{zeros-take, zeros-long}
-
+use Rattle.tree.specs.Hand.{zeros-take}
 use Rattle.tree.proofs.places.Goals as goal
 
 pub places_by-requires : goal.places_by-requires

@@ -1,9 +1,7 @@
 -- The marks that the callees leave are those of the rules, for marks that begin at 0.
 use mathlib.Core.Path.{◌∙◌}
-use borrow.Author.Rules.{rules}
 use Rattle.records.specs.Records.{as_header}
-use Rattle.tree.specs.Hand.{none_at_most, bodies-at-most, places_marked}
-
+use Rattle.tree.specs.Hand.{bodies-at-most, places_marked}
 use Rattle.tree.proofs.places_by.Goals as goal
 
 pub hand_down-requires : goal.hand_down-requires

@@ -1,11 +1,9 @@
 -- The counts begin at 0, so that one counted once is referred to exactly once.
 use mathlib.Core.Path.{◌∙◌}
 use lib.ListN.{replicate}
-use borrow.Author.Rules.{rules}
 use Rattle.records.specs.Records.{as_header}
 use Rattle.tree.specs.Tally.{references_refused}
 use Rattle.tree.specs.Hand.{zeros-at}
-
 use Rattle.tree.proofs.references.Goals as goal
 
 pub returns : goal.returns

@@ -1,8 +1,6 @@
 -- The second pass is asked only where the first accepts.
-use borrow.Author.Rules.{rules}
 use Rattle.rules.specs.Tree.{tree_refusal}
 use Rattle.tree.specs.Search.{then_stops, then_goes}
-
 use Rattle.tree.proofs.tree.Goals as goal
 
 pub returns-then-v-ne0 : goal.returns-then-v-ne0

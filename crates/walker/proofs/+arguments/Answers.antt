@@ -1,12 +1,8 @@
 -- Along the chain to the first refusal.
-use borrow.Author.Rules.{rules}
-use mathlib.Core.Path.{◌≡◌, refl, sym, ap, ◌∙◌}
-use Prim.Native.Nat.{◌-◌}
+use mathlib.Core.Path.{refl, sym, ◌∙◌}
 use native.Mathlib.Omega.{arith}
 use Rattle.names.specs.Chains.{chain_standing, no_other, no_arguments, first_argument_lem, argument_naming, later_arguments, known_argument, known_arguments, argument_ahead}
 use Rattle.walker.specs.Ways.{arguments-none, argument_stops, argument_goes}
-use Prim.Native.Nat.{ℕ, ◌<◌}
-
 use Rattle.walker.proofs.+arguments.Goals as goal
 
 pub returns-then-n-eq65535 : goal.returns-then-n-eq65535

@@ -1,13 +1,8 @@
 -- Along the chain and the parameters together.
 use Rattle.walker.specs.Ways.{fit_none, at-end, fit_stops, fit_goes, fit_next}
-use borrow.Author.Rules.{rules}
-use mathlib.Core.Path.{◌≡◌, refl, sym, ap, ◌∙◌}
-use Prim.Native.Nat.{◌-◌}
+use mathlib.Core.Path.{refl, sym, ◌∙◌}
 use native.Mathlib.Omega.{arith}
-use borrow.Author.Tests.{not-true, not-false}
 use Rattle.names.specs.Chains.{chain_standing, no_other, no_arguments, first_argument_lem, later_arguments, known_arguments, argument_ahead}
-use Prim.Native.Nat.{ℕ, ◌<◌}
-
 use Rattle.walker.proofs.+arguments_fit.Goals as goal
 
 pub returns-then-n-eq65535 : goal.returns-then-n-eq65535

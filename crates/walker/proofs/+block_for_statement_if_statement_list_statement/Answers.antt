@@ -1,8 +1,6 @@
 -- Children in field order, then own rules, then next; what a node refers to has a larger number.
-use borrow.Author.Rules.{rules}
-use mathlib.Core.Path.{◌≡◌, refl, sym, ap, ◌∙◌}
+use mathlib.Core.Path.{refl, sym, ◌∙◌}
 use mathlib.Core.Logic.{inl, inr}
-use Prim.Native.Nat.{◌+◌, ◌-◌, ◌*◌}
 use native.Mathlib.Omega.{arith}
 use Rattle.rules.specs.Tree.{declared}
 use Rattle.rules.specs.Walk.{stmt_refusal}
@@ -10,9 +8,7 @@ use Rattle.names.specs.Sound.{means, refers, standing_child, never_refused, no_e
 use Rattle.names.specs.Expressions.{decoded}
 use Rattle.names.specs.Chains.{chain_standing, no_statements, first_statement_lem, later_statements}
 use Rattle.names.specs.Statements.{begun, begun-behind}
-use Rattle.walker.specs.Nested.{known_of, walkable_first, walkable_next, walkable_ahead, walkable_child, walkable_begun, callable, range_small, walked_plain, if_condition_stops, if_yes_stops, if_no_stops, if_goes, for_first_stops, for_second_stops, for_name_stops, for_body_stops, for_goes, block-names_stop, block_goes, list_none, list_stops, list_goes}
-use Prim.Native.Nat.{ℕ, ◌<◌}
-
+use Rattle.walker.specs.Nested.{known_of, walkable_next, walkable_ahead, walkable_child, walkable_begun, callable, range_small, walked_plain, if_condition_stops, if_yes_stops, if_no_stops, if_goes, for_first_stops, for_second_stops, for_name_stops, for_body_stops, for_goes, block-names_stop, block_goes, list_none, list_stops, list_goes}
 use Rattle.walker.proofs.+block_for_statement_if_statement_list_statement.Goals as goal
 
 pub block-block_rules-v-requires : goal.block-block_rules-v-requires

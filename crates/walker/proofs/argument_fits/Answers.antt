@@ -1,8 +1,5 @@
 -- The two records, and whether the argument is a name by itself.
-use mathlib.Core.Path.{◌≡◌, refl, sym, ap, ◌∙◌}
 use Rattle.walker.specs.Judge.{argument_fits}
-use borrow.Author.Rules.{rules}
-
 use Rattle.walker.proofs.argument_fits.Goals as goal
 
 pub returns : goal.returns

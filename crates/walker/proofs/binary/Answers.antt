@@ -1,8 +1,6 @@
 -- The operators that divide are 4 and 5.
-use mathlib.Core.Path.{◌≡◌, refl, sym, ap, ◌∙◌}
+use mathlib.Core.Path.{◌∙◌}
 use Rattle.walker.specs.Judge.{slow-operator}
-use borrow.Author.Rules.{rules}
-
 use Rattle.walker.proofs.binary.Goals as goal
 
 pub returns : goal.returns

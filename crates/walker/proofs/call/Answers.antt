@@ -1,9 +1,7 @@
 -- The arguments, then 11 and 12.
-use mathlib.Core.Path.{◌≡◌, refl, sym, ap, ◌∙◌}
+use mathlib.Core.Path.{◌∙◌}
 use Rattle.walker.specs.Judge.{then_is}
 use Rattle.walker.specs.Simple.{call_known, called_stops, called_goes, call_chain}
-use borrow.Author.Rules.{rules}
-
 use Rattle.walker.proofs.call.Goals as goal
 
 pub arguments-a-requires : goal.arguments-a-requires

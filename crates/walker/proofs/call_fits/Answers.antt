@@ -1,9 +1,5 @@
 -- The callee's parameters stand in its range.
-use mathlib.Core.Path.{◌≡◌, refl, sym, ap, ◌∙◌}
-use native.Mathlib.Omega.{arith}
-use Rattle.walker.specs.Simple.{call_fit, room_of_lem}
-use borrow.Author.Rules.{rules}
-
+use Rattle.walker.specs.Simple.{call_fit}
 use Rattle.walker.proofs.call_fits.Goals as goal
 
 pub returns : goal.returns

@@ -1,7 +1,5 @@
 -- The bounds of the range, and the mark.
 use Rattle.rules.specs.Walk.{declarable}
-use borrow.Author.Rules.{rules}
-
 use Rattle.walker.proofs.can_declare.Goals as goal
 
 pub returns : goal.returns

@@ -1,16 +1,7 @@
 -- The rest of the range is still to be tested.
-use borrow.Author.Rules.{rules}
-use mathlib.Core.Path.{◌≡◌, refl, sym, ap, ◌∙◌}
-use mathlib.Core.List.{List}
-use Prim.Native.Nat.{ℕ, ◌+◌, ◌-◌, ◌≤◌}
+use mathlib.Core.Path.{sym, ◌∙◌}
 use native.Mathlib.Omega.{arith}
-use borrow.Author.Tests.{not-true, not-false}
-use Rattle.rules.specs.Tree.{range}
-use Rattle.rules.specs.Walk.{declarable, every}
-use Rattle.records.specs.Records.{as_procedure}
-use Rattle.names.specs.Marks.{Marks}
-use Rattle.walker.specs.Nested.{every-on, every-stops, every-ends, every-begins}
-
+use Rattle.walker.specs.Nested.{every-on, every-stops, every-ends}
 use Rattle.walker.proofs.can_declare_all.Goals as goal
 
 pub returns-then-not-can_declare : goal.returns-then-not-can_declare

@@ -1,16 +1,10 @@
-use borrow.Author.Rules.{rules}
-use mathlib.Core.Path.{◌≡◌, refl, sym, ap, ◌∙◌}
+use mathlib.Core.Path.{◌≡◌}
 use mathlib.Core.List.{List}
 use Prim.Native.Nat.{ℕ, ◌+◌, ◌-◌, ◌≤◌}
-use native.Mathlib.Omega.{arith}
-use borrow.Author.Tests.{not-true, not-false}
 use Rattle.rules.specs.Tree.{range}
 use Rattle.rules.specs.Walk.{declarable, every}
 use Rattle.records.specs.Records.{as_procedure}
 use Rattle.names.specs.Marks.{Marks}
-use Rattle.walker.specs.Nested.{every-on, every-stops, every-ends, every-begins}
-use Rattle.walker.proofs.can_declare_all.Lts as lts
-
 use Rattle.walker.proofs.can_declare_all.Given as goal
 
 abbrev pub invariant-loop-i : goal.invariant-loop-i

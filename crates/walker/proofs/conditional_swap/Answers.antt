@@ -1,12 +1,10 @@
 -- Condition and both targets, then 10, 11 and 12.
-use mathlib.Core.Path.{◌≡◌, refl, sym, ap, ap₂, ◌∙◌}
+use mathlib.Core.Path.{ap₂, ◌∙◌}
 use mathlib.Core.Bool.{Bool, not, ◌&&◌, ◌||◌}
 use Rattle.names.specs.Sound.{means, refers, standing_child, known_child}
 use Rattle.names.specs.Statements.{known_target, conditional_left, conditional_right}
 use Rattle.walker.specs.Judge.{then_is}
 use Rattle.walker.specs.Simple.{condition_stops, conditional_left_stops, conditional_right_stops, conditional_goes, secret-target, swap_clash_lem, condition_clash, same-roots}
-use borrow.Author.Rules.{rules}
-
 use Rattle.walker.proofs.conditional_swap.Goals as goal
 
 pub expression-e-requires : goal.expression-e-requires

@@ -1,7 +1,5 @@
 -- One name after the other.
 use Rattle.walker.specs.Simple.{share-two}
-use borrow.Author.Rules.{rules}
-
 use Rattle.walker.proofs.either_in_index.Goals as goal
 
 pub returns : goal.returns

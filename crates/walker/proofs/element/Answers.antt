@@ -1,8 +1,6 @@
 -- The name's rules and the index's secrecy, over the array's record.
-use mathlib.Core.Path.{◌≡◌, refl, sym, ap, ◌∙◌}
+use mathlib.Core.Path.{◌∙◌}
 use Rattle.rules.specs.Walk.{element_refusal}
-use borrow.Author.Rules.{rules}
-
 use Rattle.walker.proofs.element.Goals as goal
 
 pub returns : goal.returns

@@ -1,8 +1,6 @@
 -- The index first, then the element's own rules.
-use mathlib.Core.Path.{◌≡◌, refl, sym, ap, ◌∙◌}
+use mathlib.Core.Path.{◌∙◌}
 use Rattle.walker.specs.Judge.{stops, goes}
-use borrow.Author.Rules.{rules}
-
 use Rattle.walker.proofs.element_place.Goals as goal
 
 pub returns-then-i-ne0 : goal.returns-then-i-ne0

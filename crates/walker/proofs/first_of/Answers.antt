@@ -1,7 +1,6 @@
 -- The two ways of the definition.
 use borrow.Author.Tests.{eq-eqb, ne_eqb}
 use Rattle.rules.specs.Form.{◌then◌}
-
 use Rattle.walker.proofs.first_of.Goals as goal
 
 pub returns-then-v-eq0 : goal.returns-then-v-eq0

@@ -1,10 +1,8 @@
 -- The bounds' variables are marked, and the body's roots looked up.
-use mathlib.Core.Path.{◌≡◌, refl, sym, ap, ◌∙◌}
+use mathlib.Core.Path.{ap, ◌∙◌}
 use Rattle.rules.specs.Form.{given}
 use Rattle.walker.specs.Judge.{then_is}
 use Rattle.walker.specs.Nested.{for_clash}
-use borrow.Author.Rules.{rules}
-
 use Rattle.walker.proofs.for_rules.Goals as goal
 
 pub returns : goal.returns

@@ -1,6 +1,5 @@
 -- The two ways of the definition.
 use Rattle.rules.specs.Form.{given}
-
 use Rattle.walker.proofs.given.Goals as goal
 
 pub returns-then-broken : goal.returns-then-broken

@@ -1,10 +1,8 @@
 -- The condition's variables are marked, and the branches' roots looked up.
-use mathlib.Core.Path.{◌≡◌, refl, sym, ap, ◌∙◌}
+use mathlib.Core.Path.{ap, ◌∙◌}
 use Rattle.rules.specs.Form.{given}
 use Rattle.walker.specs.Judge.{then_is}
 use Rattle.walker.specs.Nested.{if_clash}
-use borrow.Author.Rules.{rules}
-
 use Rattle.walker.proofs.if_rules.Goals as goal
 
 pub returns : goal.returns

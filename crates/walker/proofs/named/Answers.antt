@@ -1,8 +1,6 @@
 -- The mark tells whether the name is in scope.
 use Rattle.rules.specs.Walk.{named}
-use mathlib.Core.Path.{◌≡◌, refl, sym, ap, ◌∙◌}
-use borrow.Author.Rules.{rules}
-
+use mathlib.Core.Path.{◌∙◌}
 use Rattle.walker.proofs.named.Goals as goal
 
 pub returns : goal.returns

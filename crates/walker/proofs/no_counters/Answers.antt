@@ -1,15 +1,8 @@
 -- The rest of the range is still to be tested.
-use borrow.Author.Rules.{rules}
-use mathlib.Core.Path.{◌≡◌, refl, sym, ap, ◌∙◌}
-use mathlib.Core.Bool.{not}
-use Prim.Native.Nat.{ℕ, ◌+◌, ◌-◌, ◌≤◌}
+use mathlib.Core.Path.{sym, ◌∙◌}
 use native.Mathlib.Omega.{arith}
 use borrow.Author.Tests.{eq-eqb, ne_eqb}
-use Rattle.rules.specs.Image.{Parts, is_counter}
-use Rattle.rules.specs.Tree.{range}
-use Rattle.rules.specs.Walk.{type_of, every}
-use Rattle.walker.specs.Nested.{every-on, every-stops, every-ends, every-begins}
-
+use Rattle.walker.specs.Nested.{every-on, every-stops, every-ends}
 use Rattle.walker.proofs.no_counters.Goals as goal
 
 pub returns-then-v-eq3 : goal.returns-then-v-eq3

@@ -1,15 +1,9 @@
-use borrow.Author.Rules.{rules}
-use mathlib.Core.Path.{◌≡◌, refl, sym, ap, ◌∙◌}
+use mathlib.Core.Path.{◌≡◌}
 use mathlib.Core.Bool.{not}
-use Prim.Native.Nat.{ℕ, ◌+◌, ◌-◌, ◌≤◌}
-use native.Mathlib.Omega.{arith}
-use borrow.Author.Tests.{eq-eqb, ne_eqb}
+use Prim.Native.Nat.{◌+◌, ◌-◌, ◌≤◌}
 use Rattle.rules.specs.Image.{Parts, is_counter}
 use Rattle.rules.specs.Tree.{range}
 use Rattle.rules.specs.Walk.{type_of, every}
-use Rattle.walker.specs.Nested.{every-on, every-stops, every-ends, every-begins}
-use Rattle.walker.proofs.no_counters.Lts as lts
-
 use Rattle.walker.proofs.no_counters.Given as goal
 
 abbrev pub invariant-loop-i : goal.invariant-loop-i

@@ -1,9 +1,6 @@
 -- A name by itself, or an element.
-use mathlib.Core.Path.{◌≡◌, refl, sym, ap, ◌∙◌}
-use Rattle.names.specs.Chains.{standing_index, known_element, known_unsafe, root-small}
+use Rattle.names.specs.Chains.{standing_index, root-small}
 use Rattle.walker.specs.Judge.{whole_place, element_place}
-use borrow.Author.Rules.{rules}
-
 use Rattle.walker.proofs.place.Goals as goal
 
 pub returns-in-Variable : goal.returns-in-Variable

@@ -1,7 +1,5 @@
 -- The two records.
 use Rattle.rules.specs.Walk.{same_type}
-use borrow.Author.Rules.{rules}
-
 use Rattle.walker.proofs.same_type.Goals as goal
 
 pub returns : goal.returns

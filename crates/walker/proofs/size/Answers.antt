@@ -1,8 +1,6 @@
 -- A size is public.
-use mathlib.Core.Path.{◌≡◌, refl, sym, ap, ◌∙◌}
+use mathlib.Core.Path.{◌∙◌}
 use Rattle.rules.specs.Walk.{expr_refusal, secret}
-use borrow.Author.Rules.{rules}
-
 use Rattle.walker.proofs.size.Goals as goal
 
 pub returns : goal.returns

@@ -1,11 +1,9 @@
 -- Both targets, then 11 and 12.
-use mathlib.Core.Path.{◌≡◌, refl, sym, ap, ◌∙◌}
+use mathlib.Core.Path.{◌∙◌}
 use Rattle.names.specs.Sound.{means}
 use Rattle.names.specs.Statements.{known_target, swap_left, swap_right}
 use Rattle.walker.specs.Judge.{then_is}
 use Rattle.walker.specs.Simple.{swap_left_stops, swap_right_stops, swap_goes, swap_clash_lem, same-roots}
-use borrow.Author.Rules.{rules}
-
 use Rattle.walker.proofs.swap.Goals as goal
 
 pub place-a-requires : goal.place-a-requires

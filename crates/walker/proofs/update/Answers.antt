@@ -1,12 +1,10 @@
 -- Target and value, then 10 and 11.
-use mathlib.Core.Path.{◌≡◌, refl, sym, ap, ◌∙◌}
+use mathlib.Core.Path.{ap, ◌∙◌}
 use mathlib.Core.Bool.{not}
 use Rattle.names.specs.Sound.{means, refers, standing_child, known_child}
 use Rattle.names.specs.Statements.{known_target, update_target}
 use Rattle.walker.specs.Judge.{then_is}
 use Rattle.walker.specs.Simple.{update_target_stops, update_value_stops, update_goes, secret-target, update_clash}
-use borrow.Author.Rules.{rules}
-
 use Rattle.walker.proofs.update.Goals as goal
 
 pub place-t-requires : goal.place-t-requires

@@ -1,8 +1,6 @@
 -- A constant is no array, and public.
-use mathlib.Core.Path.{◌≡◌, refl, sym, ap, ◌∙◌}
+use mathlib.Core.Path.{◌∙◌}
 use Rattle.walker.specs.Judge.{variable-judges}
-use borrow.Author.Rules.{rules}
-
 use Rattle.walker.proofs.variable.Goals as goal
 
 pub returns : goal.returns

@@ -1,8 +1,5 @@
 -- Each arm has the operator's number, at which `binary_of` computes, and the last arm a number for which it has the first.
-use Rattle.std.proofs.Common.{refl, rules}
-use Rattle.rules.specs.Words.{plus, binaries, divides}
-use Rattle.words.proofs.Numbered.{unnamed}
-
+use Rattle.rules.specs.Words.{divides}
 use Rattle.words.proofs.binary.Goals as goal
 
 pub quotient-requires : goal.quotient-requires

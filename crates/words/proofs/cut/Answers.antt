@@ -1,8 +1,7 @@
 -- The mask is 2 ^ z - 1, and a conjunction with it is the remainder.
-use Rattle.std.proofs.Common.{ap, ◌∙◌, rules}
+use Rattle.std.proofs.Common.{ap, ◌∙◌}
 use lib.Bits.{bit_and, and_mask}
 use Rattle.words.proofs.Machine.{mask}
-
 use Rattle.words.proofs.cut.Goals as goal
 
 pub returns : goal.returns

@@ -1,8 +1,7 @@
 -- The difference may be cut to 64 bits first, since z is at most 64.
-use Rattle.std.proofs.Common.{arith, rules}
+use Rattle.std.proofs.Common.{arith}
 use Rattle.rules.specs.Words.{operate, changed_by}
 use Rattle.words.proofs.Machine.{decrease_cut}
-
 use Rattle.words.proofs.decrease.Goals as goal
 
 pub returns : goal.returns

@@ -1,7 +1,5 @@
 -- The test is the definition's, and `truth_word` gives its word.
-use Rattle.std.proofs.Common.{rules}
 use Rattle.rules.specs.Words.{operate}
-
 use Rattle.words.proofs.equal.Goals as goal
 
 pub returns : goal.returns

@@ -1,7 +1,6 @@
 -- The test by which the code exchanges is the definition's.
 use Rattle.std.proofs.Common.{◌≡◌, true, false, eqb, refl, arith, eq-eqb, ne_eqb}
 use Rattle.rules.specs.Words.{exchanged}
-
 use Rattle.words.proofs.exchange.Goals as goal
 
 pub returns-then-condition-eq0 : goal.returns-then-condition-eq0

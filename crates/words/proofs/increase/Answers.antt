@@ -1,8 +1,6 @@
 -- The sum may be cut to 64 bits first, since z is at most 64.
-use Rattle.std.proofs.Common.{rules}
 use Rattle.rules.specs.Words.{operate, changed_by}
 use Rattle.words.proofs.Machine.{increase-cut}
-
 use Rattle.words.proofs.increase.Goals as goal
 
 pub returns : goal.returns

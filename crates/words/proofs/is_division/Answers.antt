@@ -1,7 +1,6 @@
 -- Of the operators, the fourth and the fifth divide, and none of those that follow.
 use Rattle.std.proofs.Common.{◌≡◌, ℕ, zero, suc, ◌-◌, false, List, [], ◌∷◌, get_or, sym, refl, arith}
 use Rattle.rules.specs.Words.{Binary, plus, conjunction, disjunction, exclusive, equal, unequal, below, above, at_most, at_least, shift_left, shift_right, binaries, divides}
-
 use Rattle.words.proofs.is_division.Goals as goal
 
 -- Where no operator of a list divides, none at any place does.

@@ -1,7 +1,6 @@
 -- Where b is greater, the difference comes round by 2^64.
-use Rattle.std.proofs.Common.{arith, rules}
+use Rattle.std.proofs.Common.{arith}
 use Rattle.rules.specs.Words.{operate}
-
 use Rattle.words.proofs.minus.Goals as goal
 
 pub returns-then-b-a : goal.returns-then-b-a

@@ -1,7 +1,5 @@
 -- The sum is the one that std wraps.
-use Rattle.std.proofs.Common.{rules}
 use Rattle.rules.specs.Words.{operate}
-
 use Rattle.words.proofs.plus.Goals as goal
 
 pub returns : goal.returns

@@ -1,7 +1,6 @@
 -- The machine's quotient is the definition's.
-use Rattle.std.proofs.Common.{refl, rules}
+use Rattle.std.proofs.Common.{refl}
 use Rattle.rules.specs.Words.{operate}
-
 use Rattle.words.proofs.quotient.Goals as goal
 
 pub returns : goal.returns

@@ -1,7 +1,6 @@
 -- The cell is turned by the places that the definition names.
-use Rattle.std.proofs.Common.{refl, rules}
+use Rattle.std.proofs.Common.{refl}
 use Rattle.rules.specs.Words.{changed_by}
-
 use Rattle.words.proofs.rotate_left.Goals as goal
 
 pub returns : goal.returns

@@ -1,9 +1,8 @@
 -- To turn right is to turn left by the rest of the way round, and by no places to turn nothing.
-use Rattle.std.proofs.Common.{sym, ◌∙◌, le_of_lt, rules}
+use Rattle.std.proofs.Common.{sym, ◌∙◌, le_of_lt}
 use Rattle.rules.specs.Words.{changed_by}
 use Rattle.numbers.specs.Laws.{right_is_left}
 use Rattle.words.proofs.Machine.{right_by_none}
-
 use Rattle.words.proofs.rotate_right.Goals as goal
 
 pub returns-then-by-eq0 : goal.returns-then-by-eq0

@@ -1,7 +1,6 @@
 -- The test by which the code shifts is the definition's.
-use Rattle.std.proofs.Common.{arith, rules, le-ltb, lt-ltb}
+use Rattle.std.proofs.Common.{arith, le-ltb, lt-ltb}
 use Rattle.rules.specs.Words.{operate}
-
 use Rattle.words.proofs.shift_right.Goals as goal
 
 pub returns-then-b-lt64 : goal.returns-then-b-lt64

@@ -1,8 +1,6 @@
 -- The words are numbers of two digits in base 2^32, and `product` is the machine's way to multiply them.
-use Rattle.std.proofs.Common.{arith, rules}
 use Rattle.rules.specs.Words.{operate}
-use Rattle.words.proofs.Machine.{product_fits, product}
-
+use Rattle.words.proofs.Machine.{product}
 use Rattle.words.proofs.times.Goals as goal
 
 pub returns : goal.returns

@@ -1,7 +1,6 @@
 -- The cell and the cut value, by `exclusive`.
-use Rattle.std.proofs.Common.{refl, rules}
+use Rattle.std.proofs.Common.{refl}
 use Rattle.rules.specs.Words.{operate, changed_by}
-
 use Rattle.words.proofs.toggle.Goals as goal
 
 pub returns : goal.returns

@@ -1,7 +1,6 @@
 -- Each branch has the test's answer.
 use Rattle.std.proofs.Common.{refl}
 use Rattle.rules.specs.Words.{truth}
-
 use Rattle.words.proofs.truth_word.Goals as goal
 
 pub returns-then-holds : goal.returns-then-holds

@@ -1,9 +1,8 @@
 -- The shifts lose no bit, so they are the definition's products and quotients.
-use Rattle.std.proofs.Common.{◌≡◌, ℕ, ◌≤◌, ◌+◌, ◌-◌, ◌*◌, ◌/◌, ◌%◌, ◌^◌, ◌<◌, sym, subst, arith, rules}
+use Rattle.std.proofs.Common.{◌≡◌, ℕ, ◌≤◌, ◌+◌, ◌-◌, ◌*◌, ◌/◌, ◌%◌, ◌^◌, ◌<◌, sym, subst, arith}
 use Rattle.rules.specs.Words.{rotated_left}
 use Rattle.numbers.specs.Laws.{rotated_left-word}
 use Rattle.words.proofs.Machine.{left_by_shifts}
-
 use Rattle.words.proofs.turned_left.Goals as goal
 
 turned : (z by x low : ℕ) → by < z → z ≤ 64 → low ≡ x % 2 ^ (z - by) → low * 2 ^ by % 2 ^ 64 + x / 2 / 2 ^ (z - by - 1) ≡ rotated_left z by x

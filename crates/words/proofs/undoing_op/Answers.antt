@@ -2,7 +2,6 @@
 use Rattle.std.proofs.Common.{refl, lit≤}
 use Rattle.rules.specs.Words.{increase, updates, undoing}
 use Rattle.words.proofs.Numbered.{unnamed}
-
 use Rattle.words.proofs.undoing_op.Goals as goal
 
 pub returns-in-1 : goal.returns-in-1

@@ -1,8 +1,6 @@
 -- The owner's parameters have no cells; else the variable's kind says how many.
 use borrow.Author.Tests.{lt-ltb, le-ltb, ne_eqb}
-use borrow.Author.Rules.{rules}
 use Rattle.entry.specs.Cells.{cells_by}
-
 use Rattle.entry.proofs.cells.cells_of.Goals as goal
 
 pub returns-then-x-q : goal.returns-then-x-q

@@ -1,15 +1,12 @@
 -- The search from `from` is the search from p: the procedures before p end at x or before it.
-use Prim.Native.Nat.{◌+◌, ◌-◌, ◌≤◌}
-use mathlib.Core.Path.{◌≡◌, refl, sym, ap, ◌∙◌}
+use Prim.Native.Nat.{◌+◌}
+use mathlib.Core.Path.{sym, ap, ◌∙◌}
 use native.Mathlib.Omega.{arith}
 use borrow.Author.Rules.{rules}
 use borrow.Author.Tests.{le-leb, lt-leb}
 use lib.Dec.{leb}
 use Rattle.rules.specs.Image.{Procedure}
-use Rattle.rules.specs.Form as form
 use Rattle.tree.specs.Search.{search-on, search-stop, search-end}
-use Rattle.entry.specs.Cells.{ends_at}
-
 use Rattle.entry.proofs.cells.owner_from.Goals as goal
 
 pub returns-then-x-q : goal.returns-then-x-q

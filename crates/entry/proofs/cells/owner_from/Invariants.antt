@@ -1,14 +1,7 @@
-use Prim.Native.Nat.{◌+◌, ◌-◌, ◌≤◌}
-use mathlib.Core.Path.{◌≡◌, refl, sym, ap, ◌∙◌}
-use native.Mathlib.Omega.{arith}
-use borrow.Author.Rules.{rules}
-use borrow.Author.Tests.{le-leb, lt-leb}
-use lib.Dec.{leb}
-use Rattle.rules.specs.Image.{Procedure}
+use Prim.Native.Nat.{◌-◌, ◌≤◌}
+use mathlib.Core.Path.{◌≡◌}
 use Rattle.rules.specs.Form as form
-use Rattle.tree.specs.Search.{search-on, search-stop, search-end}
 use Rattle.entry.specs.Cells.{ends_at}
-
 use Rattle.entry.proofs.cells.owner_from.Given as goal
 
 abbrev pub invariant-loop-p : goal.invariant-loop-p

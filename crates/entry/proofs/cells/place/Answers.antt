@@ -1,10 +1,6 @@
 -- The four numbers of a row, one store each.
-use native.Mathlib.Omega.{arith}
 use borrow.Author.Tests.{eq-eqb, ne_eqb}
-use borrow.Author.Rules.{rules}
-use lib.ListN.{length-set}
 use Rattle.entry.specs.Slots.{slot_placed}
-
 use Rattle.entry.proofs.cells.place.Goals as goal
 
 pub returns-then-v-eq1 : goal.returns-then-v-eq1

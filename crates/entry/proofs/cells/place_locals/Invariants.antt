@@ -1,16 +1,11 @@
 use Prim.Native.Nat.{◌+◌, ◌-◌, ◌≤◌}
-use mathlib.Core.Path.{◌≡◌, refl, sym, ap, ◌∙◌}
-use native.Mathlib.Omega.{arith}
-use native.Mathlib.Nat.{sub-zero, add-zero}
-use borrow.Author.Rules.{rules}
+use mathlib.Core.Path.{◌≡◌}
 use lib.ListN.{length}
-use Rattle.rules.specs.Run.{room_of, room_before, home}
+use Rattle.rules.specs.Run.{room_before, home}
 use Rattle.records.specs.Records.{as_header}
 use Rattle.entry.specs.Cells.{parts}
 use Rattle.entry.specs.Slots.{slots_placed}
-use Rattle.entry.proofs.Rooms.{Walked, walked_none, walked_more, walked_room}
-use Rattle.entry.proofs.Rows.{placed_more, placed_end, home-next, home-within, home-row}
-
+use Rattle.entry.proofs.Rooms.{Walked}
 use Rattle.entry.proofs.cells.place_locals.Given as goal
 
 abbrev pub invariant-loop-x : goal.invariant-loop-x

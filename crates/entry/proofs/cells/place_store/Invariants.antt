@@ -1,17 +1,12 @@
 use Prim.Native.Nat.{◌+◌, ◌-◌}
-use mathlib.Core.Path.{◌≡◌, refl, sym, ◌∙◌}
+use mathlib.Core.Path.{◌≡◌}
 use mathlib.Core.List.{[]}
-use native.Mathlib.Omega.{arith}
-use native.Mathlib.Nat.{sub-zero, add-zero, add_assoc}
-use borrow.Author.Rules.{rules}
 use lib.ListN.{length, get_or}
 use Rattle.rules.specs.Machine.{no_slot}
 use Rattle.rules.specs.Run.{store_slots}
 use Rattle.entry.specs.Cells.{parts}
 use Rattle.entry.specs.Slots.{slots_placed}
-use Rattle.entry.proofs.Lengths.{Summed, summed_none, summed_more}
-use Rattle.entry.proofs.Rows.{placed_more, placed_end, store_row}
-
+use Rattle.entry.proofs.Lengths.{Summed}
 use Rattle.entry.proofs.cells.place_store.Given as goal
 
 abbrev pub invariant-loop-j : goal.invariant-loop-j

@@ -1,12 +1,9 @@
 use Prim.Native.Nat.{◌-◌, ◌*◌, ◌≤◌}
-use mathlib.Core.Path.{◌≡◌, refl, sym, ap, ◌∙◌}
-use native.Mathlib.Omega.{arith}
-use borrow.Author.Rules.{rules}
-use Rattle.rules.specs.Run.{room_of, room_before}
+use mathlib.Core.Path.{◌≡◌}
+use Rattle.rules.specs.Run.{room_before}
 use Rattle.records.specs.Records.{as_header}
 use Rattle.entry.specs.Cells.{parts}
-use Rattle.entry.proofs.Rooms.{Walked, walked_none, walked_more, walked_room, room_next}
-
+use Rattle.entry.proofs.Rooms.{Walked}
 use Rattle.entry.proofs.cells.room.Given as goal
 
 abbrev pub invariant-loop-x : goal.invariant-loop-x

@@ -2,10 +2,7 @@
 use mathlib.Core.Path.{sym}
 use native.Mathlib.Nat.{lt_of_lt_of_le}
 use borrow.Author.Tests.{lt-ltb}
-use borrow.Author.Rules.{rules}
 use lib.Pow.{pow_mono}
-use Rattle.entry.proofs.Wide.{one_shifted}
-
 use Rattle.entry.proofs.refusals.cell_fits.Goals as goal
 
 pub returns-then-z-ge64 : goal.returns-then-z-ge64

@@ -1,16 +1,13 @@
 -- Each test in turn: the law of its number says what follows from its answer.
-use Prim.Native.Nat.{◌+◌, ◌≤◌}
+use Prim.Native.Nat.{◌≤◌}
 use mathlib.Core.Path.{◌≡◌, refl, sym, ap, ◌∙◌}
 use mathlib.Core.List.{[]}
 use mathlib.Core.Bool.{true}
 use native.Mathlib.Omega.{arith}
-use borrow.Author.Tests.{not-true, not-false}
-use borrow.Author.Rules.{rules}
 use Rattle.rules.specs.Image.{Procedure}
 use Rattle.records.specs.Records.{as_procedure}
 use Rattle.entry.specs.Cells.{parts}
 use Rattle.entry.proofs.Order.{fitting, Fitting, fitting-says, at-19, at-20, at-21, at-22, at-0}
-
 use Rattle.entry.proofs.refusals.entry_refusal.Goals as goal
 
 pub returns-then-works-lt8192 : goal.returns-then-works-lt8192

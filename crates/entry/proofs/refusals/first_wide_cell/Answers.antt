@@ -1,16 +1,12 @@
 -- The parameters before j have no wide cell; the cells of parameter j are searched by its size.
 use Prim.Native.Nat.{◌+◌, ◌-◌, ◌^◌}
 use mathlib.Core.Path.{◌≡◌, refl, sym, ap, ◌∙◌}
-use mathlib.Core.List.{[]}
 use native.Mathlib.Omega.{arith}
-use borrow.Author.Rules.{rules}
 use lib.Dec.{ltb}
-use lib.ListN.{length, get_or}
+use lib.ListN.{get_or}
 use Rattle.rules.specs.Image.{Variable, variable_of}
 use Rattle.rules.specs.Form as form
-use Rattle.entry.specs.Cells.{parts}
-use Rattle.entry.proofs.Wide.{Narrow, narrow-none, narrow-more, narrow-stop, narrow-all, within}
-
+use Rattle.entry.proofs.Wide.{narrow-more, narrow-stop, narrow-all, within}
 use Rattle.entry.proofs.refusals.first_wide_cell.Goals as goal
 
 pub overflow_add-end : goal.overflow_add-end

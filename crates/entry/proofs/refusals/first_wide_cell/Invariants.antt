@@ -1,15 +1,8 @@
-use Prim.Native.Nat.{◌+◌, ◌-◌, ◌^◌}
-use mathlib.Core.Path.{◌≡◌, refl, sym, ap, ◌∙◌}
+use Prim.Native.Nat.{◌-◌}
 use mathlib.Core.List.{[]}
-use native.Mathlib.Omega.{arith}
-use borrow.Author.Rules.{rules}
-use lib.Dec.{ltb}
-use lib.ListN.{length, get_or}
-use Rattle.rules.specs.Image.{Variable, variable_of}
-use Rattle.rules.specs.Form as form
+use lib.ListN.{length}
 use Rattle.entry.specs.Cells.{parts}
-use Rattle.entry.proofs.Wide.{Narrow, narrow-none, narrow-more, narrow-stop, narrow-all, within}
-
+use Rattle.entry.proofs.Wide.{Narrow}
 use Rattle.entry.proofs.refusals.first_wide_cell.Given as goal
 
 abbrev pub invariant-loop-j : goal.invariant-loop-j

@@ -1,14 +1,7 @@
 -- The search from `from` is the search from i: the cells before i passed.
-use Prim.Native.Nat.{◌-◌, ◌^◌, ◌≤◌}
-use mathlib.Core.Path.{◌≡◌, refl, sym, ◌∙◌}
+use mathlib.Core.Path.{sym, ◌∙◌}
 use native.Mathlib.Omega.{arith}
-use borrow.Author.Rules.{rules}
-use borrow.Author.Tests.{not-true, not-false}
-use lib.Dec.{ltb}
-use lib.ListN.{get_or}
-use Rattle.rules.specs.Form as form
 use Rattle.tree.specs.Search.{search-on, search-stop, search-end}
-
 use Rattle.entry.proofs.refusals.first_wide_in.Goals as goal
 
 pub returns-then-not-cell_fits : goal.returns-then-not-cell_fits

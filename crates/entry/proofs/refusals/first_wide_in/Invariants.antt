@@ -1,13 +1,8 @@
 use Prim.Native.Nat.{◌-◌, ◌^◌, ◌≤◌}
-use mathlib.Core.Path.{◌≡◌, refl, sym, ◌∙◌}
-use native.Mathlib.Omega.{arith}
-use borrow.Author.Rules.{rules}
-use borrow.Author.Tests.{not-true, not-false}
+use mathlib.Core.Path.{◌≡◌}
 use lib.Dec.{ltb}
 use lib.ListN.{get_or}
 use Rattle.rules.specs.Form as form
-use Rattle.tree.specs.Search.{search-on, search-stop, search-end}
-
 use Rattle.entry.proofs.refusals.first_wide_in.Given as goal
 
 abbrev pub invariant-loop-i : goal.invariant-loop-i

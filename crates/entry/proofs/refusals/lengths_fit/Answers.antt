@@ -1,17 +1,14 @@
 -- The lengths before j fit and are summed; the sum is small, so it does not wrap.
-use Prim.Native.Nat.{◌+◌, ◌-◌}
+use Prim.Native.Nat.{◌+◌}
 use mathlib.Core.Path.{◌≡◌, sym, ap, ◌∙◌}
 use mathlib.Core.List.{[]}
 use mathlib.Core.Bool.{true, cond}
-use native.Mathlib.Omega.{arith}
-use borrow.Author.Rules.{rules}
-use borrow.Author.Tests.{eq-eqb, ne_eqb, not-true, not-false}
-use lib.ListN.{length, get_or}
+use borrow.Author.Tests.{eq-eqb}
+use lib.ListN.{get_or}
 use lib.Dec.{eqb, leb}
 use Rattle.rules.specs.Image.{Variable, is_array}
 use Rattle.entry.specs.Cells.{parts}
-use Rattle.entry.proofs.Lengths.{fits_one, Fitted, fitted_none, fitted-more, fitted-stop, fitted-all, fits_small, summed_all}
-
+use Rattle.entry.proofs.Lengths.{fits_one, fitted-more, fitted-stop, fitted-all, summed_all}
 use Rattle.entry.proofs.refusals.lengths_fit.Goals as goal
 
 pub returns-then-not-length_fits : goal.returns-then-not-length_fits

@@ -1,9 +1,6 @@
 use Prim.Native.Nat.{◌-◌}
-use native.Mathlib.Omega.{arith}
-use borrow.Author.Rules.{rules}
 use lib.ListN.{length}
-use Rattle.entry.proofs.Fill.{Filled, filled_none, filled_more, filled_all}
-
+use Rattle.entry.proofs.Fill.{Filled}
 use Rattle.entry.proofs.work.clear_trace.Given as goal
 
 abbrev pub invariant-loop-i : goal.invariant-loop-i

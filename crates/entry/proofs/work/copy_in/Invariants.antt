@@ -1,9 +1,6 @@
 use Prim.Native.Nat.{◌-◌}
-use native.Mathlib.Omega.{arith}
-use borrow.Author.Rules.{rules, scaled_Fits}
 use lib.ListN.{length}
-use Rattle.entry.proofs.Fill.{Copied, copied_none, copied_more, copied_in}
-
+use Rattle.entry.proofs.Fill.{Copied}
 use Rattle.entry.proofs.work.copy_in.Given as goal
 
 abbrev pub invariant-loop-i : goal.invariant-loop-i
