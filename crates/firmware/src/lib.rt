@@ -1,4 +1,4 @@
-// The C boundary. Each slice passes as a pointer, then a length; nothing needs to be checked first, and slices must not overlap.
+// The two functions of the C boundary, which firmware_c exports. Nothing needs to be checked first.
 #![tactic(auto)]
 
 ghost use Rattle.std.specs.Prelude.{◌≡◌, [], ◌∷◌, length};
@@ -18,8 +18,7 @@ fn answered(answer: &mut [u64], a: u64, b: u64, c: u64, d: u64)
 }
 
 // The verdict of an image: number and place.
-#[unsafe(no_mangle)]
-pub extern "C" fn hermes_check(image: &[u8], answer: &mut [u64])
+pub fn hermes_check(image: &[u8], answer: &mut [u64])
     ensures { CheckedInto image.now (length answer.old) answer.new }
 {
     let verdict = checker::check(image);
@@ -27,8 +26,7 @@ pub extern "C" fn hermes_check(image: &[u8], answer: &mut [u64])
 }
 
 // The run of an image over a lent store: number, place, steps and trace entries.
-#[unsafe(no_mangle)]
-pub extern "C" fn hermes_run(
+pub fn hermes_run(
     image: &[u8],
     inverse: bool,
     lengths: &[u64],
