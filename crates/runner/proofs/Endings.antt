@@ -1,23 +1,20 @@
 -- From what the code did to what the rules say of the run: a refusal before the first step, an execution that finishes, and one that is refused.
-use Prim.Native.Nat.{ℕ, ◌+◌, ◌-◌, ◌*◌, ◌^◌, ◌≤◌, ◌<◌}
+use Prim.Native.Nat.{ℕ, ◌-◌, ◌^◌, ◌≤◌, ◌<◌}
 use mathlib.Core.Path.{◌≡◌, refl, sym, ap, ◌∙◌}
-use mathlib.Core.List.{List, [], ◌∷◌, ◌++◌}
-use mathlib.Core.Bool.{Bool, true, false, cond}
+use mathlib.Core.List.{List, [], ◌++◌}
+use mathlib.Core.Bool.{Bool, true, false}
 use mathlib.Core.Logic.{dite}
 use native.Mathlib.Omega.{arith}
 use native.Mathlib.Decide.{dec_lt}
 use native.Mathlib.Nat.{sub-zero}
 use borrow.Author.Tests.{eq-eqb, ne_eqb, lt-ltb, le-ltb}
-use lib.ListN.{length, take, drop, replicate, length-replicate}
+use lib.ListN.{length, take, drop, replicate}
 use lib.Seq.{take-nil, take-take, take_at}
-use lib.Dec.{eqb, ltb}
-use Rattle.rules.specs.Words.{forward, inverse}
-use Rattle.rules.specs.Image.{Header, header_of, Parts, parts_of, procedure_of}
+use Rattle.rules.specs.Image.{Header, header_of, Parts, parts_of}
 use Rattle.rules.specs.Form.{Verdict}
 use Rattle.rules.specs.Tree.{body_of}
-use Rattle.rules.specs.Check.{verdict}
-use Rattle.rules.specs.Machine.{Env, State, Out, done, stop}
-use Rattle.rules.specs.Run.{Given, room_before, last_of, execution, entry_refusal, refused_run, run, fitted, trace_after, work_after}
+use Rattle.rules.specs.Machine.{Env, Out, done, stop}
+use Rattle.rules.specs.Run.{Given, room_before, last_of, execution, entry_refusal, refused_run, trace_after, work_after}
 use Rattle.rules.specs.Promised as rules
 use Rattle.rules.specs.Promised.{Ran}
 use Rattle.laws.specs.Entries.{few_events}

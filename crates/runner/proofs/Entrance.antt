@@ -1,20 +1,20 @@
 -- How a run is let in: what an accepted image says of the parts that are handed on, the refusals 19 to 22 as the run's, and the table of slots.
-use Prim.Native.Nat.{ℕ, ◌+◌, ◌-◌, ◌*◌, ◌≤◌, ◌<◌}
+use Prim.Native.Nat.{ℕ, ◌-◌, ◌≤◌}
 use mathlib.Core.Path.{◌≡◌, refl, sym, ap, ◌∙◌}
-use mathlib.Core.List.{List, [], ◌++◌}
+use mathlib.Core.List.{List, []}
 use mathlib.Core.Bool.{Bool}
 use native.Mathlib.Omega.{arith}
-use lib.ListN.{length, get_or, take, drop, replicate}
+use lib.ListN.{length, get_or}
 use Rattle.rules.specs.Image.{Header, header_of, Parts, part, parts_of}
 use Rattle.rules.specs.Form.{Verdict}
 use Rattle.rules.specs.Check.{verdict}
 use Rattle.rules.specs.Machine.{no_slot}
-use Rattle.rules.specs.Run.{Given, room_before, home, store_slots, last_of, entry_refusal, execution}
+use Rattle.rules.specs.Run.{home, store_slots, last_of, entry_refusal, execution}
 use Rattle.entry.specs.Cells.{parts}
 use Rattle.entry.specs.Slots.{slots_placed}
 use Rattle.entry.specs.Refusals.{Called, entry_tests}
 use Rattle.entry.proofs.Accepted.{formed, Laid, laid, called}
-use Rattle.entry.proofs.Outcomes.{checked_first, tests_same, cells_begin}
+use Rattle.entry.proofs.Outcomes.{checked_first, tests_same}
 use Rattle.entry.proofs.Same.{room_same}
 use Rattle.runner.specs.Runs.{as_given, four_parts, Ready, cells_of, Placing, slots_begun}
 use Rattle.runner.proofs.Program.{form, keeps, inside, last_one}

@@ -1,8 +1,7 @@
 -- A body that the check accepts keeps to its own names, and calls smaller procedures with as many arguments as they have parameters.
 -- The names in scope are always the procedure's own: its parameters at the start, then what blocks and fors declare.
-use Prim.Native.Nat.{ℕ, ◌+◌, ◌≤◌, ◌<◌}
+use Prim.Native.Nat.{ℕ, ◌+◌, ◌≤◌}
 use mathlib.Core.List.{List, [], ◌∷◌, ◌++◌}
-use mathlib.Core.Path.{◌≡◌}
 use mathlib.Core.Bool.{Bool, not}
 use mathlib.Core.Logic.{⊎_elim, ◌↔◌}
 use native.Mathlib.Omega.{arith}
@@ -14,7 +13,7 @@ use Rattle.rules.specs.Form.{Verdict, given, ◌then◌}
 use Rattle.rules.specs.Tree.{member, Expr, number, constant, variable, element, size, binary, unary, LValue, whole, entry, Stmt, empty, update, swap, conditional_swap, branch, loop, call, block, nothing, list, range, declared}
 use Rattle.rules.specs.Walk.{every, type_of, named, element_refusal, expr_refusal, target_refusal, argument_refusal, arguments_refusal, declarable, call_fits, stmt_refusal, body_refusal}
 use Rattle.laws.specs.Verdicts.{Accepted, and_iff, given_holds, then_both, then_accepted, then_first, member-here, member-there, member-cases, append_cases, range_inside, every-each}
-use Rattle.expressions.specs.Names.{In, WithinE, WithinL, WithinLs, WithinXs, Fitting, Within}
+use Rattle.expressions.specs.Names.{In, WithinE, WithinL, WithinLs, WithinXs, Within}
 use Rattle.executors.specs.World.{parameters_of}
 
 -- `simp then_iff at e` takes a whole chain apart.

@@ -1,28 +1,28 @@
 -- What an accepted image is to the executors: its records fit, its bodies are statements that keep to their own names, its locals have
 -- good homes; and once both kinds of rows are set, the names of the last procedure live where its execution starts.
 use Prim.Native.Nat.{ℕ, zero, suc, ◌+◌, ◌-◌, ◌*◌, ◌≤◌, ◌<◌}
-use mathlib.Core.Path.{◌≡◌, refl, sym, ap, ◌∙◌}
-use mathlib.Core.List.{List, [], ◌∷◌, ◌++◌}
-use mathlib.Core.Bool.{Bool, true, not, ◌&&◌, ◌||◌}
+use mathlib.Core.Path.{◌≡◌, refl}
+use mathlib.Core.List.{List}
+use mathlib.Core.Bool.{true, not}
 use mathlib.Core.Logic.{⊎_elim, inl, dite}
 use native.Mathlib.Omega.{arith}
 use native.Mathlib.Decide.{ℕ_discrete}
-use lib.ListN.{length, get_or, replicate, length-replicate}
+use lib.ListN.{length}
 use lib.Dec.{T, T_not, lit<}
 use Rattle.rules.specs.Image.{Header, header_of, Parts, parts_of, procedure_of, node_of, is_statement}
 use Rattle.rules.specs.Form.{record_fits, node_refusal}
 use Rattle.rules.specs.Tree.{bodies, member, depths, chained, stands_in_tree, reference_refusal, place_refusal, tree_refusal, body_of}
 use Rattle.rules.specs.Check.{slow, verdict}
-use Rattle.rules.specs.Machine.{Slot, no_slot, Env}
-use Rattle.rules.specs.Run.{room_before, home, store_slots, env_of, last_of}
+use Rattle.rules.specs.Machine.{Env}
+use Rattle.rules.specs.Run.{home, store_slots, env_of, last_of}
 use Rattle.laws.specs.Verdicts.{and_iff, or_cases, is_true, then_both, lowest-passed, member-here, member-there}
 use Rattle.laws.specs.Records.{Sound, sound, ranges_ordered}
 use Rattle.laws.specs.Cells.{room_grows}
 use Rattle.entry.proofs.Accepted.{Formed, formed, laid, part_length}
 use Rattle.entry.proofs.Outcomes.{Entered, entered}
 use Rattle.entry.proofs.Names.{rows_home, rows_starting, starting-good}
-use Rattle.expressions.specs.Relations.{slot_of, Good, Agree, Program}
-use Rattle.executors.specs.World.{Code, Statement, Bodies, parameters_of, low_of, high_of, locals_of, World, Stands}
+use Rattle.expressions.specs.Relations.{Good}
+use Rattle.executors.specs.World.{Code, Statement, World, Stands}
 use Rattle.runner.specs.Runs.{Ready, slots_begun}
 use Rattle.runner.proofs.Keeps.{within_body}
 

@@ -1,12 +1,10 @@
 -- `runner::accepted` meets its contract: the parts stand where an accepted header says, 19 to 22 are the run's, and behind them the execution's end is told.
 -- Assumes nothing.
-use mathlib.Core.Path.{◌≡◌, refl, sym, ap, ◌∙◌}
+use mathlib.Core.Path.{sym, ap, ◌∙◌}
 use native.Mathlib.Omega.{arith}
 use Rattle.rules.specs.Form as rules
 use Rattle.runner.proofs.Entrance.{layout, last-called, ready, few_cells, enough}
 use Rattle.runner.proofs.Told.{ran-late, ran-through}
-use borrow.Author.Rules.{rules}
-
 use Rattle.runner.proofs.accepted.Goals as goal
 
 pub slice_bounds-entry_refusal-count : goal.slice_bounds-entry_refusal-count

@@ -2,14 +2,11 @@
 -- Assumes nothing.
 use lib.Seq.{length-take-le}
 use Rattle.runner.proofs.Endings.{worked}
-use mathlib.Core.Path.{◌≡◌, refl, sym, ap, ◌∙◌}
+use mathlib.Core.Path.{refl, sym, ap, ◌∙◌}
 use native.Mathlib.Omega.{arith}
 use Rattle.rules.specs.Image as image
-use Rattle.runner.proofs.Program.{keeps, inside, body_statement, last_one}
+use Rattle.runner.proofs.Program.{keeps, body_statement, last_one}
 use Rattle.runner.proofs.Entrance.{few_cells, enough, placing, same_total}
-use Rattle.runner.proofs.Endings.{executes}
-use borrow.Author.Rules.{rules}
-
 use Rattle.runner.proofs.executed.Goals as goal
 
 pub overflow_cast-store : goal.overflow_cast-store
@@ -31,11 +28,10 @@ pub slice_bounds-statement-end-2 : goal.slice_bounds-statement-end-2
 slice_bounds-statement-end-2 c = sym (length-take-le _ _ (omega (arith, same_total c.requires.ready _ c.placed-total.ensures.total-is, few_cells c.requires.ready, enough c.requires.ready, c.copy_in.auto.work)))
 
 pub statement-requires : goal.statement-requires
-statement-requires c =
-    (
-      rw (ap (λ (q : image.Procedure). q.body) c.procedure_at-last.ensures) (body_statement c.requires.ready _ (last_one c.requires.ready)),
-      λ q l. body_statement c.requires.ready q (omega (arith, last_one c.requires.ready)),
-    )
+statement-requires c = (
+  rw (ap (λ (q : image.Procedure). q.body) c.procedure_at-last.ensures) (body_statement c.requires.ready _ (last_one c.requires.ready)),
+  λ q l. body_statement c.requires.ready q (omega (arith, last_one c.requires.ready)),
+)
 
 pub returns : goal.returns
 returns c =

@@ -1,12 +1,6 @@
 -- `runner::run` meets its contract: what was lent is cleared first, so that a refusal of the check finds it all 0, and what it lent on has the same lengths.
 -- Assumes nothing.
-use mathlib.Core.Path.{◌≡◌, refl, sym, ap, ◌∙◌}
-use Prim.Native.Nat.{ℕ}
-use lib.ListN.{replicate}
-use Rattle.rules.specs.Form as rules
 use Rattle.runner.proofs.Told.{ran-unchecked}
-use borrow.Author.Rules.{rules}
-
 use Rattle.runner.proofs.run.Goals as goal
 
 pub returns-then-refusal-ne0 : goal.returns-then-refusal-ne0
