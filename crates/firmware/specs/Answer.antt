@@ -1,6 +1,6 @@
 -- Four numbers put into a cleared slice are what fits of them, then zeros; and two numbers with two zeros behind them are the two alone.
-use Rattle.std.specs.Prelude.{ℕ, zero, suc, ◌-◌, ◌≡◌, refl, List, [], ◌∷◌, ◌++◌, length, set, take, replicate}
-use Rattle.std.proofs.Common.{ap, arith}
+use Rattle.std.specs.Prelude.{ℕ, zero, suc, ◌-◌, ◌≡◌, refl, [], ◌∷◌, set, take, replicate}
+use Rattle.std.proofs.Common.{arith}
 use Rattle.rules.specs.Run.{fitted}
 
 take_none : (n : ℕ) → take {A = ℕ} n [] ≡ []

@@ -2,8 +2,6 @@
 use mathlib.Core.Path.{◌∙◌}
 use lib.ListN.{length}
 use Rattle.firmware.specs.Answer.{put_four}
-use borrow.Author.Rules.{rules}
-
 use Rattle.firmware.proofs.answered.Goals as goal
 
 pub returns : goal.returns
