@@ -1,4 +1,4 @@
-/* The checker and the runner of Hermes images, for C. `rt staticlib firmware` makes target/staticlib/libfirmware.a. */
+/* The checker and the runner of Hermes images, for C. `tools/staticlib` makes target/staticlib/libfirmware.a. */
 
 #ifndef HERMES_H
 #define HERMES_H

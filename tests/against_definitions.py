@@ -12,12 +12,10 @@ TOP = os.path.join(HERE, '..')
 RULES = os.path.join(TOP, 'crates', 'rules')
 CRATES = {'rules': '', 'numbers': 'rules', 'laws': 'rules numbers', 'cases': 'rules laws'}
 PER_FILE = 30
-HEAD = '''use Prim.Native.Nat.{ℕ, zero, suc, _+_, _-_, _*_, _/_, _%_, _^_}
-use mathlib.Core.List.{List, [], _∷_, _++_}
-use mathlib.Core.Path.{_≡_, refl}
-use Rattle·rules.specs.Words.{Direction, forward, inverse}
-use Rattle·rules.specs.Form.{Verdict}
-use Rattle·rules.specs.Run.{Given, Outcome}
+HEAD = '''use Rattle.std.specs.Prelude.{ℕ, zero, suc, ◌+◌, ◌-◌, ◌*◌, ◌/◌, ◌%◌, ◌^◌, ◌≡◌, refl, List, [], ◌∷◌, ◌++◌}
+use Rattle.rules.specs.Words.{Direction, forward, inverse}
+use Rattle.rules.specs.Form.{Verdict}
+use Rattle.rules.specs.Run.{Given, Outcome}
 '''
 
 def unfoldable():
@@ -43,18 +41,18 @@ def equation(fields):
 def tea_equation():
     with open(os.path.join(TOP, 'samples', 'tea.image'), 'rb') as f:
         image = ' '.join(map(str, f.read()))
-    uses = 'use mathlib.Core.List.{[], _∷_}\nuse mathlib.Core.Path.{_≡_, refl}\nuse Rattle·laws.specs.Tea.{tea}\n'
-    return f'{uses}\nsameTea : tea ≡ {numbers(image)}\nunfolding tea\nsameTea = refl\n'
+    uses = 'use Rattle.std.specs.Prelude.{[], ◌∷◌, ◌≡◌, refl}\nuse Rattle.laws.specs.Tea.{tea}\n'
+    return f'{uses}\nsame_tea : tea ≡ {numbers(image)}\nunfolding tea\nsame_tea = refl\n'
 
 def write_crate(repository, cases):
     names = unfoldable()
-    uses = HEAD + ''.join(f'use Rattle·rules.specs.{m}.{{{", ".join(ns)}}}\n' for m, ns in names.items())
+    uses = HEAD + ''.join(f'use Rattle.rules.specs.{m}.{{{", ".join(ns)}}}\n' for m, ns in names.items())
     opened = 'unfolding ' + ' '.join(n for ns in names.values() for n in ns)
     crate = os.path.join(repository, 'crates', 'cases')
     os.makedirs(os.path.join(crate, 'specs'))
     os.makedirs(os.path.join(crate, 'src'))
     with open(os.path.join(crate, 'src', 'lib.rt'), 'w') as f:
-        f.write('// no code\n')
+        f.write('// no code\n#![tactic(auto)]\n')
     modules = ['Tea']
     with open(os.path.join(crate, 'specs', 'Tea.antt'), 'w') as f:
         f.write(tea_equation())
@@ -78,16 +76,16 @@ def main():
     start, repository = time.time(), tempfile.mkdtemp(prefix='definitions-')
     try:
         for crate in list(CRATES)[:-1]:
-            shutil.copytree(os.path.join(TOP, 'crates', crate), os.path.join(repository, 'crates', crate))
+            shutil.copytree(os.path.join(TOP, 'crates', crate), os.path.join(repository, 'crates', crate), ignore=shutil.ignore_patterns('out'))
         with open(os.path.join(repository, 'crates.txt'), 'w') as f:
             f.write(''.join(f'{crate}: {below}\n' for crate, below in CRATES.items()))
         write_crate(repository, cases)
-        ran = subprocess.run(['rt', 'check'], cwd=repository, capture_output=True, text=True)
+        ran = subprocess.run(['rt', 'check'], cwd=os.path.join(repository, 'crates', 'cases'), capture_output=True, text=True)
         out = ran.stdout + ran.stderr
         wrong = sorted({int(k) for k in re.findall(r'error: `case(\d+)`', out)})
         for k in wrong:
             print('differs:', cases[k][0])
-        if 'error: `sameTea`' in out:
+        if 'error: `same_tea`' in out:
             print('differs: the bytes of TEA in crates/laws and in samples/tea.image')
         elif ran.returncode != 0 and not wrong:
             print(out[-4000:])

@@ -12,7 +12,7 @@ fn main() {
     let built = || PathBuf::from(env!("CARGO_MANIFEST_DIR")).join("../target/staticlib");
     let folder = env::var_os("FIRMWARE_FOLDER").map_or_else(built, PathBuf::from);
     let library = folder.join("libfirmware.a");
-    assert!(library.exists(), "{} is missing: `rt staticlib firmware` makes it", library.display());
+    assert!(library.exists(), "{} is missing: `tools/staticlib` makes it", library.display());
     println!("cargo:rerun-if-changed={}", library.display());
     println!("cargo:rustc-link-search=native={}", folder.display());
     println!("cargo:rustc-link-lib=static=firmware");

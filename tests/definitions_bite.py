@@ -12,7 +12,7 @@ CRATES = ('rules', 'numbers', 'laws')
 THEOREMS = {'reversible': 'Reversible.antt', 'secret': 'Secret.antt'}
 
 def reversible(parameters, variables, nodes, numbers, lengths, store):
-    return 'reversible', f'notTakenBack (program {parameters} ({variables}) ({nodes}) ({numbers})) ({lengths}) ({store})'
+    return 'reversible', f'not_taken_back (program {parameters} ({variables}) ({nodes}) ({numbers})) ({lengths}) ({store})'
 
 def secret(parameters, variables, nodes, numbers, lengths, store, other):
     return 'secret', f'tells (program {parameters} ({variables}) ({nodes}) ({numbers})) ({lengths}) ({store}) ({other})'
@@ -54,7 +54,7 @@ COUNTEREXAMPLES = {
     'bound_changed_in_the_body': (reversible(1, f'{U} ∷ counter ∷ []',
         'plain 6 1 1 2 3 ∷ num 0 ∷ var 0 ∷ block 0 0 4 missing ∷ increase 5 6 7 ∷ var 1 ∷ num 1 ∷ increase 8 9 missing ∷ var 0 ∷ num 1 ∷ []', '0 ∷ 1 ∷ []', ONE, '1 ∷ []'),),
     # p(x, x), where p(a, b) is a += b
-    'one_root_twice': (('reversible', f'notTakenBack (programs (procedure 0 2 2 0 ∷ procedure 2 1 1 3 ∷ []) ({U} ∷ {U} ∷ {U} ∷ []) '
+    'one_root_twice': (('reversible', f'not_taken_back (programs (procedure 0 2 2 0 ∷ procedure 2 1 1 3 ∷ []) ({U} ∷ {U} ∷ {U} ∷ []) '
         '(increase 1 2 missing ∷ var 0 ∷ var 1 ∷ plain 7 0 4 0 0 ∷ node 21 0 2 0 0 0 5 ∷ var 2 ∷ []) []) (1 ∷ []) (5 ∷ [])'),),
     # for (i = 0; 2) { i += x; x += 1; } with x = -1: the counter is -1, -1, 0, 2, and the way back ends at that 0
     'counter_meets_its_first_bound': (reversible(1, f'{U} ∷ counter ∷ []',
@@ -75,19 +75,15 @@ SPARED = {
 }
 
 BROKEN = '''-- Both demands as tests that compute.
-use Prim.Native.Nat.{ℕ, zero, suc, _+_, _-_, _*_, _/_, _%_, _^_}
-use mathlib.Core.List.{List, [], _∷_, _++_}
-use mathlib.Core.Path.{_≡_, refl}
-use mathlib.Core.Bool.{Bool, true, false, not, cond, _&&_, _||_}
-use lib.Dec.{eqb, leb}
-use Rattle·rules.specs.Words.{Direction, forward, inverse}
-use Rattle·rules.specs.Image.{missing, header_of, partsOf}
-use Rattle·rules.specs.Form.{Verdict}
-use Rattle·rules.specs.Check.{verdict, without_unsafe}
-use Rattle·rules.specs.Run.{Given, Outcome, secrecies, store_refusal, run}
-use Rattle·rules.proofs.Assemble.{procedure, node, plain}
-use Rattle·rules.proofs.Opened.{definitions}
-use Rattle·rules.proofs.Programs.{public, hidden, scalar, array, constant, counter, num, var, element, binary, empty, increase, toggle, block, program, programs}
+use Rattle.std.specs.Prelude.{ℕ, zero, suc, ◌+◌, ◌-◌, ◌*◌, ◌/◌, ◌%◌, ◌^◌, ◌≡◌, refl, List, [], ◌∷◌, ◌++◌, Bool, true, false, not, cond, ◌&&◌, ◌||◌, eqb, leb}
+use Rattle.rules.specs.Words.{Direction, forward, inverse}
+use Rattle.rules.specs.Image.{missing, header_of, parts_of}
+use Rattle.rules.specs.Form.{Verdict}
+use Rattle.rules.specs.Check.{verdict, without_unsafe}
+use Rattle.rules.specs.Run.{Given, Outcome, secrecies, store_refusal, run}
+use Rattle.rules.proofs.Assemble.{procedure, node, plain}
+use Rattle.rules.proofs.Opened.{definitions}
+use Rattle.rules.proofs.Programs.{public, hidden, scalar, array, constant, counter, num, var, element, binary, empty, increase, toggle, block, program, programs}
 
 begins : List ℕ → List ℕ → Bool
 begins [] ys = true
@@ -98,39 +94,39 @@ same : List ℕ → List ℕ → Bool
 same xs ys = begins xs ys && begins ys xs
 
 -- cells with their secrecies
-samePublic : List ℕ → List ℕ → List ℕ → Bool
-samePublic [] xs ys = true
-samePublic (s ∷ ss) [] ys = true
-samePublic (s ∷ ss) (x ∷ xs) [] = true
-samePublic (s ∷ ss) (x ∷ xs) (y ∷ ys) = (eqb s 1 || eqb x y) && samePublic ss xs ys
+same_public : List ℕ → List ℕ → List ℕ → Bool
+same_public [] xs ys = true
+same_public (s ∷ ss) [] ys = true
+same_public (s ∷ ss) (x ∷ xs) [] = true
+same_public (s ∷ ss) (x ∷ xs) (y ∷ ys) = (eqb s 1 || eqb x y) && same_public ss xs ys
 
 ran : Direction → List ℕ → List ℕ → ℕ → List ℕ → Outcome
 ran d image lengths budget store = run (record { image = image; direction = d; lengths = lengths; store = store; works = 8192; budget = budget; room = 0 })
 
 -- The run finishes, and the run back with as many steps does not restore the store.
-backFails : List ℕ → List ℕ → List ℕ → Outcome → Bool
-backFails image lengths store o = eqb (o .number) 0 && not (restored (ran inverse image lengths (o .steps) (o .store)))
+back_fails : List ℕ → List ℕ → List ℕ → Outcome → Bool
+back_fails image lengths store o = eqb o.number 0 && not (restored (ran inverse image lengths o.steps o.store))
   where
     restored : Outcome → Bool
-    restored p = eqb (p .number) 0 && (eqb (p .steps) (o .steps) && same (p .store) store)
+    restored p = eqb p.number 0 && (eqb p.steps o.steps && same p.store store)
 
-notTakenBack : List ℕ → List ℕ → List ℕ → Bool
-notTakenBack image lengths store = backFails image lengths store (ran forward image lengths 40 store)
+not_taken_back : List ℕ → List ℕ → List ℕ → Bool
+not_taken_back image lengths store = back_fails image lengths store (ran forward image lengths 40 store)
 
 -- What demand 3 asks of two outcomes.
 indistinct : List ℕ → Outcome → Outcome → Bool
 indistinct ss o p =
-    cond (eqb (o .number) 27 || eqb (p .number) 27)
-    ((not (leb (o .steps) (p .steps)) || begins (o .events) (p .events)) && (not (leb (p .steps) (o .steps)) || begins (p .events) (o .events)))
-    (eqb (o .number) (p .number) && (eqb (o .place) (p .place) && (eqb (o .steps) (p .steps) && (same (o .events) (p .events) && samePublic ss (o .store) (p .store)))))
+    cond (eqb o.number 27 || eqb p.number 27)
+    ((not (leb o.steps p.steps) || begins o.events p.events) && (not (leb p.steps o.steps) || begins p.events o.events))
+    (eqb o.number p.number && (eqb o.place p.place && (eqb o.steps p.steps && (same o.events p.events && same_public ss o.store p.store))))
 
 -- Accepted, without unsafe look-ups, the stores well formed and equal at every public cell, and yet the outcomes can be told apart.
 tells : List ℕ → List ℕ → List ℕ → List ℕ → Bool
 tells image lengths store other =
-    (eqb (verdict image .number) 0 && without_unsafe image)
-    && ((eqb (store_refusal (header_of image) (partsOf image) lengths store .number) 0 && eqb (store_refusal (header_of image) (partsOf image) lengths other .number) 0)
-    && (samePublic (secrecies (header_of image) (partsOf image) lengths) store other
-    && not (indistinct (secrecies (header_of image) (partsOf image) lengths) (ran forward image lengths 40 store) (ran forward image lengths 40 other))))
+    (eqb ((verdict image).number) 0 && without_unsafe image)
+    && ((eqb ((store_refusal (header_of image) (parts_of image) lengths store).number) 0 && eqb ((store_refusal (header_of image) (parts_of image) lengths other).number) 0)
+    && (same_public (secrecies (header_of image) (parts_of image) lengths) store other
+    && not (indistinct (secrecies (header_of image) (parts_of image) lengths) (ran forward image lengths 40 store) (ran forward image lengths 40 other))))
 '''
 
 def apply(crate, edit):
@@ -162,12 +158,12 @@ def needed(modules, folder):
         if module not in found:
             found.add(module)
             with open(os.path.join(folder, module + '.antt')) as f:
-                left += re.findall(r'^use Rattle·laws·specs\.specs\.(\w+)', f.read(), flags=re.M)
+                left += re.findall(r'^use Rattle\.laws\.specs\.(\w+)', f.read(), flags=re.M)
     return found
 
 def copy(repository):
     for crate in CRATES:
-        shutil.copytree(os.path.join(ROOT, 'crates', crate), os.path.join(repository, 'crates', crate), ignore=shutil.ignore_patterns('must-fail', 'Traps.antt'))
+        shutil.copytree(os.path.join(ROOT, 'crates', crate), os.path.join(repository, 'crates', crate), ignore=shutil.ignore_patterns('must-fail', 'out', 'Traps.antt'))
     kept_modules(os.path.join(repository, 'crates', 'rules', 'proofs', 'Lib.antt'), lambda module: module != 'Traps')
     with open(os.path.join(repository, 'crates.txt'), 'w') as f:
         f.write('rules:\nnumbers: rules\nlaws: rules numbers\nbroken: rules\n')
@@ -184,17 +180,17 @@ def write_broken(repository, name):
     for folder in ('specs', 'src'):
         os.makedirs(os.path.join(crate, folder))
     with open(os.path.join(crate, 'src', 'lib.rt'), 'w') as f:
-        f.write('// no code\n')
+        f.write('// no code\n#![tactic(auto)]\n')
     with open(os.path.join(crate, 'specs', 'Lib.antt'), 'w') as f:
         f.write('pub mod Broken\n')
     with open(os.path.join(crate, 'specs', 'Broken.antt'), 'w') as f:
         f.write(BROKEN)
         tests = [(test, 'true') for _, test in COUNTEREXAMPLES.get(name, ())] + [(test, 'false') for _, test in SPARED.get(name, ())]
         for k, (test, value) in enumerate(tests):
-            f.write(f'\nbroken{k} : {test} ≡ {value}\nunfolding definitions program programs begins same samePublic ran backFails notTakenBack indistinct tells\nbroken{k} = refl\n')
+            f.write(f'\nbroken{k} : {test} ≡ {value}\nunfolding definitions program programs begins same same_public ran back_fails not_taken_back indistinct tells\nbroken{k} = refl\n')
 
 def check(repository, crate):
-    ran = subprocess.run(['rt', 'check', crate], cwd=repository, capture_output=True, text=True, env={**os.environ, 'RT_CUT': '0', 'RT_JOBS': '1'})
+    ran = subprocess.run(['rt', 'check'], cwd=os.path.join(repository, 'crates', crate), capture_output=True, text=True, env={**os.environ, 'RT_CUT': '0', 'RT_JOBS': '1'})
     return ran.returncode, ran.stdout + ran.stderr
 
 def refusals(repository):
@@ -222,7 +218,7 @@ def tried(name, edit):
         if not own:
             # The two theorems stand: is it refused where their hypotheses are met, or by the starred turns?
             shutil.rmtree(os.path.join(repository, 'crates', 'laws'))
-            shutil.copytree(os.path.join(ROOT, 'crates', 'laws'), os.path.join(repository, 'crates', 'laws'), ignore=shutil.ignore_patterns('must-fail'))
+            shutil.copytree(os.path.join(ROOT, 'crates', 'laws'), os.path.join(repository, 'crates', 'laws'), ignore=shutil.ignore_patterns('must-fail', 'out'))
             own, lost = refusals(repository)
         return f'false: {", ".join(false) or "neither"} | refused: {", ".join(own) or "none"} | no longer proved: {", ".join(lost) or "none"}', set(false) <= set(lost)
     except ValueError as wrong:

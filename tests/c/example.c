@@ -1,4 +1,4 @@
-/* Checks and runs document 01's image of 40 bytes. From the top folder, once `rt staticlib firmware` has been run:
+/* Checks and runs document 01's image of 40 bytes. From the top folder, once `tools/staticlib` has been run:
 
        cc -std=c99 -Wall -Wextra -Iinclude tests/c/example.c target/staticlib/libfirmware.a -o target/example
        target/example

@@ -43,7 +43,7 @@ fn introduction() -> String {
 Images to check and run. `cargo run --release --bin samples`, in the folder tests, writes this folder anew; a test there compares.
 
 All commands below stand in the folder tests and answer by the Rust reference. With `--features library` behind `--release`
-they answer by the proved library, which `rt staticlib firmware` makes first, and print the same.
+they answer by the proved library, which `tools/staticlib` makes first, and print the same.
 
 "
     .to_string()
