@@ -14,7 +14,8 @@ use Rattle.rules.specs.Tree.{member, Expr, LValue, whole, Stmt, empty, update, s
 use Rattle.rules.specs.Walk.{type_of}
 use Rattle.rules.specs.Machine.{Slot, no_slot, Env, Command, Calls, found, eval, address, arguments, done, reading, both, in_order, exchange, counted, block_end, first_bound, exec}
 use Rattle.laws.specs.Verdicts.{both_hold, or_left, or_right, decided, unequal_test, member-here, member-there, append_left, append_right}
-use Rattle.numbers.specs.Laws.{changed_by-fits, going-back}
+use Rattle.numbers.specs.Laws.{changed_by-fits}
+use Rattle.numbers.proofs.Back.{going-back}
 use Rattle.laws.specs.Cells.{In, in_list}
 use Rattle.laws.specs.Spec.{Cells, Inv, Spec, spec_done, spec_both, spec_step, spec_read, spec_read_two, spec_choose, spec_wider, spec_change, spec_exchange}
 use Rattle.laws.specs.SpecLoop.{spec_block, spec_counted}

@@ -10,7 +10,6 @@ use Rattle.std.proofs.Math.Pow.{ones_sub-lt, high, low, split}
 use Rattle.std.proofs.lemmas.Nat.{shr_le, or_lt, xor_lt}
 use Rattle.std.proofs.Math.Arith.{digits_lt, sub-sub_self}
 use Rattle.std.specs.Int.Bits.{and_lt}
-use Rattle.rules.specs.Words.{Direction, forward, inverse, opposite, going}
 use Rattle.rules.specs.Words.{Binary, plus, minus, times, quotient, remainder, conjunction, disjunction, exclusive}
 use Rattle.rules.specs.Words.{equal, unequal, below, above, at_most, at_least, shift_left, shift_right, truth, operate, divides}
 use Rattle.rules.specs.Words.{Unary, complement, operate1}
@@ -141,15 +140,6 @@ undoing-twice decrease = refl
 undoing-twice toggle = refl
 undoing-twice rotate_left = refl
 undoing-twice rotate_right = refl
-
--- Whichever way an update went, the other way brings back what was there.
-pub going-back : (d : Direction) (u : Update) (z v x : ℕ) → 0 < z → x < 2 ^ z
-    → changed_by (going (opposite d) u) z v (changed_by (going d u) z v x) ≡ x
-unfolding going opposite
-going-back forward u z v x some h = undone u z v x some h
-going-back inverse u z v x some h =
-    ap (λ w. changed_by w z v (changed_by (undoing u) z v x)) (sym (undoing-twice u))
-    ∙ undone (undoing u) z v x some h
 
 -- A second exchange on the same condition brings back what was there.
 pub exchanged-twice : (condition a b : ℕ) → exchanged condition (exchanged condition a b) (exchanged condition b a) ≡ a
