@@ -9,7 +9,7 @@ import concurrent.futures, glob, os, re, shutil, subprocess, sys, tempfile
 
 ROOT = os.path.join(os.path.dirname(os.path.abspath(__file__)), '..')
 CRATES = ('rules', 'numbers', 'laws')
-THEOREMS = {'reversible': 'Reversible.antt', 'secret': 'Secret.antt'}
+THEOREMS = {'reversible': 'Reversible', 'secret': 'Secret'}
 
 def reversible(parameters, variables, nodes, numbers, lengths, store):
     return 'reversible', f'not_taken_back (program {parameters} ({variables}) ({nodes}) ({numbers})) ({lengths}) ({store})'
@@ -175,6 +175,15 @@ def keep_laws(repository, modules):
         if file != 'Lib.antt' and file.removesuffix('.antt') not in modules:
             os.remove(os.path.join(folder, file))
 
+def write_probes(repository):
+    """A module for each theorem that rests on it alone: the check says of it whether the theorem is proved, in a list that is not cut short."""
+    folder = os.path.join(repository, 'crates', 'laws', 'specs')
+    for theorem, module in THEOREMS.items():
+        with open(os.path.join(folder, f'Probe{module}.antt'), 'w') as f:
+            f.write(f'use Rattle.laws.specs.{module}.{{{theorem}}}\n\nprobe : Unit {{0}}\nprobe = let t = {theorem} in tt\n')
+        with open(os.path.join(folder, 'Lib.antt'), 'a') as f:
+            f.write(f'pub mod Probe{module}\n')
+
 def write_broken(repository, name):
     crate = os.path.join(repository, 'crates', 'broken')
     for folder in ('specs', 'src'):
@@ -195,12 +204,13 @@ def check(repository, crate):
 
 def refusals(repository):
     """The laws that are refused for their own sake, and the theorems that are no longer proved."""
+    write_probes(repository)
     code, out = check(repository, 'laws')
-    errors = re.findall(r'^\S*?/crates/laws/specs/(\w+\.antt):\d+:\d+: error: `([^`]*)`:? ?(.*)$', out, flags=re.M)
+    errors = re.findall(r'^\./specs/(\w+)\.antt:\d+:\d+: error: (?:`([^`]*)`:)?', out, flags=re.M)
     if code != 0 and not errors:
         raise ValueError(f'laws has no verdict: {out[-1500:]}')
-    own = [f'{file.removesuffix(".antt")} `{law}`' for file, law, what in errors if 'was not admitted' not in what]
-    return list(dict.fromkeys(own)), [t for t, file in THEOREMS.items() if any(f == file and law == t for f, law, _ in errors)]
+    own = [f'{module} `{law}`' for module, law in errors if law]
+    return list(dict.fromkeys(own)), [t for t, module in THEOREMS.items() if any(m == f'Probe{module}' for m, _ in errors)]
 
 def tried(name, edit):
     """The line for one edit, and whether it is as it should be."""

@@ -180,7 +180,7 @@ module _ (g : Given) (τ : List ℕ) (ok : Accepted (verdict g.image)) (safe : T
 
 -- ---- the theorem
 
--- The runs of one accepted program without unsafe look-ups over two well_formed stores that agree on public cells: if neither is refused with 27,
+-- The runs of one accepted program without unsafe look-ups over two well-formed stores that agree on public cells: if neither is refused with 27,
 -- number, place, steps, trace and the public cells afterwards are equal; if one is, the trace of the run with fewer or equal steps begins the other's.
 pub secret : (g h : Given) → EqualButStore g h → (verdict g.image).number ≡ 0 → T (without_unsafe g.image) → WellFormed g → WellFormed h → AgreePublic g h
     → (((run g).number ≡ 27 → ⊥) → ((run h).number ≡ 27 → ⊥) → Alike g (run g) (run h))
