@@ -14,7 +14,6 @@ use Rattle.rules.specs.Form.{Verdict, given, ◌then◌, format_refusal, counts_
 use Rattle.rules.specs.Walk.{type_of}
 use Rattle.rules.specs.Check.{form_refusal, verdict_for, verdict}
 use Rattle.records.specs.Truth.{both, either, never}
-use Rattle.entry.specs.Cells.{parts}
 use Rattle.entry.specs.Refusals.{Called}
 use Rattle.tree.specs.Search.{lowest-accepts}
 
@@ -150,10 +149,6 @@ module _ {h : Header} {s : Parts} {bytes : ℕ} (f : Formed h s bytes) where
       let l = laid in
       let q = placed (h.procedures - 1) (omega arith) in
       record { some = l.some; few = q.few; inside = omega arith }
-
--- It asks nothing of the nodes and the constants.
-pub called_same : {h : Header} {s : Parts} → Called h s → Called h (parts s.procedures s.variables)
-called_same c = record { some = c.some; few = c.few; inside = c.inside }
 
 -- A part is as long as its records.
 pub part_length : (image : List ℕ) (from end : ℕ) → from ≤ end → end ≤ length image → length (part image from end) ≡ end - from

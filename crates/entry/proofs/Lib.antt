@@ -1,10 +1,8 @@
-pub mod Fill
 pub mod Searches
 pub mod Lengths
 pub mod Wide
 pub mod Rooms
 pub mod Rows
-pub mod Same
 pub mod Order
 pub mod Accepted
 pub mod Outcomes

@@ -12,11 +12,10 @@ use Rattle.rules.specs.Image.{Header, Parts, procedure_of}
 use Rattle.rules.specs.Form.{shared_before}
 use Rattle.rules.specs.Machine.{Slot, no_slot, Env}
 use Rattle.rules.specs.Run.{home, store_slots, env_of, last_of, sum}
-use Rattle.entry.specs.Cells.{parts}
-use Rattle.entry.specs.Slots.{slot_of, slots_placed}
+use Rattle.records.specs.Slots.{Table, slot_of}
+use Rattle.entry.specs.Slots.{slots_placed}
 use Rattle.entry.proofs.Rooms.{room_grows}
 use Rattle.entry.proofs.Rows.{all_length, rows_at, rows_other, store_slot, sum-split}
-use Rattle.entry.proofs.Same.{home_same, store_same}
 use Rattle.entry.proofs.Accepted.{Formed, laid, Placed, placed, sized}
 use Rattle.entry.proofs.Outcomes.{Entered}
 
@@ -54,9 +53,9 @@ module _ {h : Header} {s : Parts} {bytes : ℕ} (f : Formed h s bytes) where
   -- ---- both kinds of rows
 
   module _ {works : ℕ} {lengths store : List ℕ} (e : Entered h s works lengths store)
-      (slots₀ slots₁ slots₂ : List ℕ) (long : length slots₀ ≡ 4096)
-      (at_home : slots₁ ≡ slots_placed (home h (parts s.procedures s.variables) (length store)) 0 h.variables slots₀)
-      (at_store : slots₂ ≡ slots_placed (λ y. get_or (store_slots (parts [] s.variables) (last_of h s).first 0 lengths) (y - (last_of h s).first) no_slot) (last_of h s).first (length lengths) slots₁) where
+      (slots₀ slots₁ slots₂ : Table) (long : length slots₀ ≡ 1024)
+      (at_home : slots₁ ≡ slots_placed (home h s (length store)) 0 h.variables slots₀)
+      (at_store : slots₂ ≡ slots_placed (λ y. get_or (store_slots s (last_of h s).first 0 lengths) (y - (last_of h s).first) no_slot) (last_of h s).first (length lengths) slots₁) where
     -- Where the run's last procedure starts.
     abbrev pub starting : Env
     starting = env_of (home h s (length store)) (last_of h s) (store_slots s (last_of h s).first 0 lengths)
@@ -64,7 +63,7 @@ module _ {h : Header} {s : Parts} {bytes : ℕ} (f : Formed h s bytes) where
     last : Placed h s (h.procedures - 1)
     last = placed f (h.procedures - 1) (omega (arith, laid f))
 
-    long₁ : length slots₁ ≡ 4096
+    long₁ : length slots₁ ≡ 1024
     long₁ = rw (at_home, all_length) long
 
     pub rows_home : (y : ℕ) → y < h.variables → (y < (last_of h s).first) ⊎ ((last_of h s).first + length lengths ≤ y) → slot_of slots₂ y ≡ home h s (length store) y
@@ -73,14 +72,12 @@ module _ {h : Header} {s : Parts} {bytes : ℕ} (f : Formed h s bytes) where
         ∙ rows_other _ (last_of h s).first (length lengths) slots₁ y apart
         ∙ ap (λ t. slot_of t y) at_home
         ∙ rows_at _ 0 h.variables slots₀ (omega (arith, laid f)) y (omega arith) (omega arith)
-        ∙ home_same (parts s.procedures s.variables) s refl h refl (length store) y
 
     pub rows_store : (y : ℕ) → (last_of h s).first ≤ y → y < (last_of h s).first + length lengths
         → slot_of slots₂ y ≡ get_or (store_slots s (last_of h s).first 0 lengths) (y - (last_of h s).first) no_slot
     rows_store y l m =
         ap (λ t. slot_of t y) at_store
         ∙ rows_at _ (last_of h s).first (length lengths) slots₁ (omega (arith, laid f, last, e.fitting.counted, long₁)) y l m
-        ∙ ap (λ xs. get_or xs (y - (last_of h s).first) no_slot) (store_same (parts [] s.variables) s refl (last_of h s).first 0 lengths)
 
     -- Every name of the last procedure lives where its execution starts with it.
     pub rows_starting : (y : ℕ) → (last_of h s).first ≤ y → y < (last_of h s).first + (last_of h s).count → slot_of slots₂ y ≡ starting y

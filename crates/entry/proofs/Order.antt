@@ -1,21 +1,20 @@
--- 19 to 22 in order: where a test fails its refusal is the answer, and where it passes the next one's is.
-use Prim.Native.Nat.{ℕ, suc, ◌+◌, ◌*◌, ◌^◌, ◌≤◌, ◌<◌}
+-- What lengths that fit say of the store, and the verdicts of 20 to 22 by what was read.
+use Prim.Native.Nat.{ℕ, suc, ◌+◌, ◌*◌, ◌^◌, ◌≤◌}
 use mathlib.Core.Path.{◌≡◌, sym, ap, ◌∙◌}
 use mathlib.Core.List.{List, [], ◌∷◌}
-use mathlib.Core.Bool.{Bool, true, false, ◌&&◌}
+use mathlib.Core.Bool.{Bool, true, not, ◌&&◌}
 use native.Mathlib.Omega.{arith}
-use borrow.Author.Tests.{lt-ltb, le-ltb, eq-eqb, ne_eqb, eqb-true}
+use borrow.Author.Tests.{eqb-true, not-false}
 use lib.Dec.{eqb, ltb}
 use lib.ListN.{length, get_or}
 use Rattle.rules.specs.Image.{Header, Parts, Procedure}
-use Rattle.rules.specs.Form as form
-use Rattle.rules.specs.Form.{refused, accepted, given, ◌then◌, lowest}
-use Rattle.rules.specs.Run.{lengths_fit, sum, per_cell, last_of, room_before, work_refusal, lengths_refusal, cell_refusal, store_refusal, room_refusal}
+use Rattle.std.specs.Prelude.{Option, Some, None}
+use Rattle.rules.specs.Form.{refused, accepted, given}
+use Rattle.rules.specs.Run.{lengths_fit, sum, per_cell, last_of, room_before, lengths_refusal, cell_refusal, room_refusal}
 use Rattle.records.specs.Truth.{both}
-use Rattle.entry.specs.Refusals.{entry_tests}
+use Rattle.tree.specs.Search.{found, lowest-is}
+use Rattle.entry.proofs.Accepted.{given-passed}
 use Rattle.entry.proofs.Lengths.{fits_one, fits_small}
-use Rattle.entry.proofs.Searches.{search-to}
-use Rattle.entry.proofs.Same.{fit_same, cells_same}
 
 -- "array over 4,096": the store of lengths that fit is not long.
 pub fit_short : (s : Parts) (y : ℕ) (ns : List ℕ) → lengths_fit s y ns ≡ true → sum ns ≤ length ns * 4096
@@ -43,47 +42,25 @@ module _ (t : Parts) (q : Procedure) (lengths store : List ℕ) where
       let w : sum lengths ≡ length store = eqb-true _ _ r.1 in
       record { counted = n; whole = w; short = omega (arith, fit_short t q.first lengths r.0) }
 
-module _ (h : Header) (s : Parts) (works : ℕ) (lengths store : List ℕ) where
-  pub at-19 : works < 8192 → refused 19 0 ≡ entry_tests h s works lengths store
-  unfolding work_refusal given ◌then◌
-  at-19 few = rw (lt-ltb _ _ few)
+  -- Where 20 is not given, it holds.
+  pub passed-says : (fits : Bool) → fits ≡ fitting → accepted ≡ given 20 0 (not fits) → Fitting
+  passed-says fits e passed = fitting-says (sym e ∙ not-false fits (given-passed 19 0 (not fits) (ap (λ v. v.number) (sym passed))))
 
-  module _ (enough : 8192 ≤ works) (t : Parts) (same : t.variables ≡ s.variables) (q : Procedure) (last : q ≡ last_of h s) where
-    past_19 : entry_tests h s works lengths store ≡ (store_refusal h s lengths store then room_refusal h s store)
-    unfolding work_refusal given ◌then◌
-    past_19 = rw (le-ltb _ _ enough)
+-- The verdicts of 20 to 22 by the record of the last procedure, as it was read.
+module _ (h : Header) (s : Parts) (lengths store : List ℕ) (q : Procedure) (last : q ≡ last_of h s) where
+  pub lengths-is : (fits : Bool) → fits ≡ fitting s q lengths store → given 20 0 (not fits) ≡ lengths_refusal h s lengths store
+  unfolding lengths_refusal
+  lengths-is fits e = rw (e, last)
 
-    fitting-is : eqb (length lengths) (last_of h s).parameters && (lengths_fit s (last_of h s).first lengths && eqb (sum lengths) (length store)) ≡ fitting t q lengths store
-    fitting-is = rw (last, fit_same t s same)
+  module _ (r : Option ℕ) (looked : r ≡ found (λ i. ltb (get_or store i 0) (2 ^ get_or (per_cell (λ v. v.size) s q.first lengths) i 0)) 0 (length store)) where
+    pub cell-found : (i : ℕ) → r ≡ Some i → refused 21 i ≡ cell_refusal h s lengths store
+    unfolding cell_refusal given
+    cell-found i is = lowest-is 21 _ (length store) (Some i) (sym is ∙ rw last at looked)
 
-    pub at-20 : fitting t q lengths store ≡ false → refused 20 0 ≡ entry_tests h s works lengths store
-    unfolding store_refusal lengths_refusal given ◌then◌
-    at-20 e = sym (past_19 ∙ rw (fitting-is, e))
+    pub cell-none : r ≡ None → accepted ≡ cell_refusal h s lengths store
+    unfolding cell_refusal given
+    cell-none is = lowest-is 21 _ (length store) None (sym is ∙ rw last at looked)
 
-    module _ (fits : fitting t q lengths store ≡ true) where
-      past_20 : entry_tests h s works lengths store ≡ (cell_refusal h s lengths store then room_refusal h s store)
-      unfolding store_refusal lengths_refusal given ◌then◌
-      past_20 = past_19 ∙ rw (fitting-is, fits)
-
-      module _ (i : ℕ) (found : i ≡ form.search (λ k. ltb (get_or store k 0) (2 ^ get_or (per_cell (λ v. v.size) t q.first lengths) k 0)) 0 (length store)) where
-        found_is : form.search (λ k. ltb (get_or store k 0) (2 ^ get_or (per_cell (λ v. v.size) s (last_of h s).first lengths) k 0)) 0 (length store) ≡ i
-        found_is =
-            let e = cells_same t s same (λ v. v.size) q.first lengths ∙ ap (λ (p : Procedure). per_cell (λ v. v.size) s p.first lengths) last in
-            sym (found ∙ ap (λ (x : List ℕ). form.search (λ k. ltb (get_or store k 0) (2 ^ get_or x k 0)) 0 (length store)) e)
-
-        pub at-21 : i < length store → refused 21 i ≡ entry_tests h s works lengths store
-        unfolding cell_refusal lowest given ◌then◌
-        at-21 m = sym (past_20 ∙ rw (found_is, ne_eqb i (0 + length store) (λ e. omega arith)))
-
-        module _ (all : length store ≤ i) (room : ℕ) (is-room : room ≡ room_before h s h.variables) where
-          past_21 : entry_tests h s works lengths store ≡ room_refusal h s store
-          unfolding cell_refusal lowest given ◌then◌
-          past_21 = past_20 ∙ rw (found_is, eq-eqb i (0 + length store) (omega (arith, found, search-to (λ k. ltb (get_or store k 0) (2 ^ get_or (per_cell (λ v. v.size) t q.first lengths) k 0)) 0 (length store))))
-
-          pub at-22 : 4096 < length store + room → refused 22 0 ≡ entry_tests h s works lengths store
-          unfolding room_refusal given
-          at-22 m = sym (past_21 ∙ rw (← is-room, lt-ltb _ _ m))
-
-          pub at-0 : length store + room ≤ 4096 → accepted ≡ entry_tests h s works lengths store
-          unfolding room_refusal given
-          at-0 m = sym (past_21 ∙ rw (← is-room, le-ltb _ _ m))
+  pub room-is : (room : ℕ) → room ≡ room_before h s h.variables → given 22 0 (ltb 4096 (length store + room)) ≡ room_refusal h s store
+  unfolding room_refusal
+  room-is room e = rw e

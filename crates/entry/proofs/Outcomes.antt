@@ -12,12 +12,10 @@ use Rattle.rules.specs.Form.{◌then◌}
 use Rattle.rules.specs.Check.{verdict}
 use Rattle.rules.specs.Tree.{body_of}
 use Rattle.rules.specs.Machine.{State, done, stop, choose, exec}
-use Rattle.rules.specs.Run.{Given, entry_refusal, execution, outcome_of, refused_run, run, trace_after, work_refusal, store_refusal, lengths_refusal, cell_refusal, room_refusal, room_before, home, store_slots, env_of, calls_below, last_of}
-use Rattle.entry.specs.Cells.{parts}
+use Rattle.rules.specs.Run.{Given, entry_refusal, execution, outcome_of, refused_run, run, trace_after, work_refusal, store_refusal, lengths_refusal, room_refusal, room_before, home, store_slots, env_of, calls_below, last_of}
 use Rattle.entry.specs.Refusals.{entry_tests}
 use Rattle.entry.proofs.Accepted.{then_both, given-passed}
 use Rattle.entry.proofs.Order.{Fitting, fitting-says}
-use Rattle.entry.proofs.Same.{fit_same, cells_same, room_same}
 
 -- ---- the refusals of a run
 
@@ -73,18 +71,6 @@ execution-is h s g some = last h.procedures some
         (record { memory = g.store ++ replicate (room_before h s h.variables) 0; left = g.budget; events = [] })
     last zero l = absurd (omega arith)
     last (suc n) l = let e : suc n - 1 ≡ n = omega arith in rw (e, eq-eqb n n refl)
-
--- ---- what is tested depends on the procedures and the variables alone
-
-pub tests_same : (h : Header) (s : Parts) (works : ℕ) (lengths store : List ℕ)
-    → entry_tests h (parts s.procedures s.variables) works lengths store ≡ entry_tests h s works lengths store
-unfolding store_refusal lengths_refusal cell_refusal room_refusal
-tests_same h s works lengths store =
-    rw (
-      fit_same (parts s.procedures s.variables) s refl (last_of h s).first lengths,
-      cells_same (parts s.procedures s.variables) s refl (λ v. v.size) (last_of h s).first lengths,
-      room_same (parts s.procedures s.variables) s refl h refl h.variables,
-    )
 
 -- ---- where none of 19 to 22 is given
 

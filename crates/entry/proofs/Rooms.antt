@@ -12,21 +12,16 @@ use Rattle.rules.specs.Form as form
 use Rattle.rules.specs.Form.{owner, is_parameter}
 use Rattle.rules.specs.Walk.{type_of}
 use Rattle.rules.specs.Run.{room_of, room_before}
-use Rattle.entry.specs.Cells.{ends_at, cells_by}
+use Rattle.entry.specs.Cells.{ends_at, cells_by, Walked}
 use Rattle.entry.proofs.Searches.{search-further}
 
 module _ (h : Header) (s : Parts) where
-  -- The owner of variable x is found from procedure o on.
-  pub record Walked (o x : ℕ) : Type 0 where
-    pub upto : o ≤ h.procedures
-    pub found : owner h s.procedures x ≡ form.search (ends_at s.procedures x) o (h.procedures - o)
-
-  pub walked_none : Walked 0 0
+  pub walked_none : Walked h s 0 0
   unfolding owner
   walked_none = record { upto = omega arith; found = rw sub-zero }
 
-  module _ (o x : ℕ) (w : Walked o x) (o' : ℕ) (r : o' ≡ form.search (ends_at s.procedures x) o (h.procedures - o)) where
-    pub walked_more : o' ≤ h.procedures → Walked o' (x + 1)
+  module _ (o x : ℕ) (w : Walked h s o x) (o' : ℕ) (r : o' ≡ form.search (ends_at s.procedures x) o (h.procedures - o)) where
+    pub walked_more : o' ≤ h.procedures → Walked h s o' (x + 1)
     unfolding owner
     walked_more l =
         let e : form.search (ends_at s.procedures x) 0 h.procedures ≡ o' = w.found ∙ sym r in

@@ -1,28 +1,27 @@
 -- The table of slots, row by row: a row that is set reads as its slot, and every other row as before.
-use Prim.Native.Nat.{ℕ, zero, suc, ◌+◌, ◌-◌, ◌*◌, ◌≤◌, ◌<◌}
+use Prim.Native.Nat.{ℕ, zero, suc, ◌+◌, ◌-◌, ◌≤◌, ◌<◌}
 use mathlib.Core.Path.{◌≡◌, refl, sym, ap, ◌∙◌}
 use mathlib.Core.List.{List, [], ◌∷◌}
-use mathlib.Core.Bool.{Bool, true, false, cond}
 use mathlib.Core.Logic.{◌⊎◌, inl, inr, ⊎_elim, dite}
 use native.Mathlib.Omega.{arith}
 use native.Mathlib.Numerals.{add-one}
 use native.Mathlib.Nat.{add-zero, zero-add, add_assoc}
 use native.Mathlib.Decide.{ℕ_discrete}
-use lib.Dec.{eqb}
-use lib.ListN.{length, get_or, take, drop, set, length-set}
+use lib.ListN.{length, get_or, take, drop, length-set}
 use lib.Seq.{get_or-set_same, get_or-set_other}
 use Rattle.rules.specs.Image.{Header, Parts, Variable, is_secret}
 use Rattle.rules.specs.Walk.{type_of}
 use Rattle.rules.specs.Machine.{Slot, no_slot, Env}
 use Rattle.rules.specs.Run.{room_of, room_before, home, store_slots, sum}
-use Rattle.entry.specs.Slots.{slot_of, slot_placed, slots_placed}
+use Rattle.records.specs.Slots.{Table, as_slot, of_slot, slot_of}
+use Rattle.entry.specs.Slots.{slot_placed, slots_placed}
 use Rattle.entry.proofs.Lengths.{Summed}
 use Rattle.entry.proofs.Rooms.{room_next, room_grows}
 
 -- ---- the loops that set rows
 
-module _ (ρ : Env) (n j y : ℕ) (slots : List ℕ) where
-  pub placed_more : j < n → (w : Slot) → w ≡ ρ y → (slots' : List ℕ) → slots' ≡ slot_placed slots y w → (y' : ℕ) → y' ≡ y + 1
+module _ (ρ : Env) (n j y : ℕ) (slots : Table) where
+  pub placed_more : j < n → (w : Slot) → w ≡ ρ y → (slots' : Table) → slots' ≡ slot_placed slots y w → (y' : ℕ) → y' ≡ y + 1
       → slots_placed ρ y (n - j) slots ≡ slots_placed ρ y' (n - (j + 1)) slots'
   unfolding slots_placed
   placed_more h w ew slots' e y' on = let k : n - j ≡ suc (n - (j + 1)) = omega arith in rw (k, e, ew, on, add-one y)
@@ -31,85 +30,28 @@ module _ (ρ : Env) (n j y : ℕ) (slots : List ℕ) where
   unfolding slots_placed
   placed_end h = let k : n - j ≡ 0 = omega arith in rw k
 
-pub placed_length : (slots : List ℕ) (x : ℕ) (w : Slot) → length (slot_placed slots x w) ≡ length slots
+pub placed_length : (slots : Table) (x : ℕ) (w : Slot) → length (slot_placed slots x w) ≡ length slots
 unfolding slot_placed
 placed_length slots x w = simp length-set
 
-pub all_length : (ρ : Env) (x count : ℕ) (slots : List ℕ) → length (slots_placed ρ x count slots) ≡ length slots
+pub all_length : (ρ : Env) (x count : ℕ) (slots : Table) → length (slots_placed ρ x count slots) ≡ length slots
 unfolding slots_placed
 all_length ρ x zero slots = refl
 all_length ρ x (suc count) slots = all_length ρ (suc x) count (slot_placed slots x (ρ x)) ∙ placed_length slots x (ρ x)
 
 -- ---- what the rows say
 
--- Four numbers set in a row, from i on.
-module _ (l : List ℕ) (i a b c d : ℕ) where
-  abbrev one : List ℕ
-  one = set l i a
-
-  abbrev two : List ℕ
-  two = set one (i + 1) b
-
-  abbrev three : List ℕ
-  three = set two (i + 2) c
-
-  abbrev four : List ℕ
-  four = set three (i + 3) d
-
-  four-other : (k : ℕ) → (k < i) ⊎ (i + 3 < k) → get_or four k 0 ≡ get_or l k 0
-  four-other k apart =
-      get_or-set_other three (i + 3) k d 0 (λ e. ⊎_elim (λ u. omega arith) (λ u. omega arith) apart)
-      ∙ get_or-set_other two (i + 2) k c 0 (λ e. ⊎_elim (λ u. omega arith) (λ u. omega arith) apart)
-      ∙ get_or-set_other one (i + 1) k b 0 (λ e. ⊎_elim (λ u. omega arith) (λ u. omega arith) apart)
-      ∙ get_or-set_other l i k a 0 (λ e. ⊎_elim (λ u. omega arith) (λ u. omega arith) apart)
-
-  module _ (h : i + 3 < length l) where
-    four-0 : get_or four i 0 ≡ a
-    four-0 =
-        get_or-set_other three (i + 3) i d 0 (λ e. omega arith) ∙ get_or-set_other two (i + 2) i c 0 (λ e. omega arith) ∙ get_or-set_other one (i + 1) i b 0 (λ e. omega arith)
-        ∙ get_or-set_same l i a 0 (omega arith)
-
-    four-1 : get_or four (i + 1) 0 ≡ b
-    four-1 =
-        get_or-set_other three (i + 3) (i + 1) d 0 (λ e. omega arith) ∙ get_or-set_other two (i + 2) (i + 1) c 0 (λ e. omega arith)
-        ∙ get_or-set_same one (i + 1) b 0 (simp length-set (omega arith))
-
-    four-2 : get_or four (i + 2) 0 ≡ c
-    four-2 = get_or-set_other three (i + 3) (i + 2) d 0 (λ e. omega arith) ∙ get_or-set_same two (i + 2) c 0 (simp length-set (omega arith))
-
-    four-3 : get_or four (i + 3) 0 ≡ d
-    four-3 = get_or-set_same three (i + 3) d 0 (simp length-set (omega arith))
-
-told : (b : Bool) → eqb (cond b 1 0) 1 ≡ b
-told true = refl
-told false = refl
-
-module _ (slots : List ℕ) (x : ℕ) (w : Slot) where
-  pub row_here : x * 4 + 3 < length slots → slot_of (slot_placed slots x w) x ≡ w
+module _ (slots : Table) (x : ℕ) (w : Slot) where
+  pub row_here : x < length slots → slot_of (slot_placed slots x w) x ≡ w
   unfolding slot_placed
-  row_here h =
-      rw (
-        four-0 slots (x * 4) w.base w.cells w.width (cond w.hidden 1 0) h,
-        four-1 slots (x * 4) w.base w.cells w.width (cond w.hidden 1 0) h,
-        four-2 slots (x * 4) w.base w.cells w.width (cond w.hidden 1 0) h,
-        four-3 slots (x * 4) w.base w.cells w.width (cond w.hidden 1 0) h,
-        told w.hidden,
-      )
+  row_here h = ap as_slot (get_or-set_same slots x (of_slot w) (of_slot no_slot) h)
 
   pub row_other : (y : ℕ) → (y < x) ⊎ (x < y) → slot_of (slot_placed slots x w) y ≡ slot_of slots y
   unfolding slot_placed
-  row_other y apart =
-      let off : (r : ℕ) → r < 4 → (y * 4 + r < x * 4) ⊎ (x * 4 + 3 < y * 4 + r) = λ r l. ⊎_elim (λ u. inl (omega arith)) (λ u. inr (omega arith)) apart in
-      let e₀ : y * 4 + 0 ≡ y * 4 = add-zero _ in
-      rw (
-        four-other slots (x * 4) w.base w.cells w.width (cond w.hidden 1 0) (y * 4) (rw e₀ at (off 0 (omega arith))),
-        four-other slots (x * 4) w.base w.cells w.width (cond w.hidden 1 0) (y * 4 + 1) (off 1 (omega arith)),
-        four-other slots (x * 4) w.base w.cells w.width (cond w.hidden 1 0) (y * 4 + 2) (off 2 (omega arith)),
-        four-other slots (x * 4) w.base w.cells w.width (cond w.hidden 1 0) (y * 4 + 3) (off 3 (omega arith)),
-      )
+  row_other y apart = ap as_slot (get_or-set_other slots x y (of_slot w) (of_slot no_slot) (λ e. ⊎_elim (λ u. omega arith) (λ u. omega arith) apart))
 
 -- A row outside those that are set reads as before.
-pub rows_other : (ρ : Env) (x count : ℕ) (slots : List ℕ) (y : ℕ) → (y < x) ⊎ (x + count ≤ y) → slot_of (slots_placed ρ x count slots) y ≡ slot_of slots y
+pub rows_other : (ρ : Env) (x count : ℕ) (slots : Table) (y : ℕ) → (y < x) ⊎ (x + count ≤ y) → slot_of (slots_placed ρ x count slots) y ≡ slot_of slots y
 unfolding slots_placed
 rows_other ρ x zero slots y apart = refl
 rows_other ρ x (suc count) slots y apart =
@@ -117,7 +59,7 @@ rows_other ρ x (suc count) slots y apart =
     ∙ row_other slots x (ρ x) y (⊎_elim (λ u. inl u) (λ u. inr (omega arith)) apart)
 
 -- A row that is set reads as where its variable lives.
-pub rows_at : (ρ : Env) (x count : ℕ) (slots : List ℕ) → (x + count) * 4 ≤ length slots → (y : ℕ) → x ≤ y → y < x + count → slot_of (slots_placed ρ x count slots) y ≡ ρ y
+pub rows_at : (ρ : Env) (x count : ℕ) (slots : Table) → x + count ≤ length slots → (y : ℕ) → x ≤ y → y < x + count → slot_of (slots_placed ρ x count slots) y ≡ ρ y
 unfolding slots_placed
 rows_at ρ x zero slots h y l m = absurd (omega arith)
 rows_at ρ x (suc count) slots h y l m = dite (ℕ_discrete y x)

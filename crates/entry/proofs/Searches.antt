@@ -1,46 +1,42 @@
--- A search a stretch of places at a time: a stretch that passes is skipped, and one with a place that fails ends the search.
+-- Where a search ends, and a search a stretch of places at a time: a stretch that passes is skipped, and one with a place that fails
+-- ends the search.
 use Prim.Native.Nat.{ℕ, zero, suc, ◌+◌, ◌-◌, ◌≤◌, ◌<◌}
-use mathlib.Core.Path.{◌≡◌, refl}
+use mathlib.Core.Path.{◌≡◌, refl, sym, ap, ◌∙◌, subst}
 use mathlib.Core.Bool.{Bool, true, false, cond}
+use mathlib.Core.List.{List}
+use mathlib.Core.Logic.{dite}
 use native.Mathlib.Omega.{arith}
-use native.Mathlib.Nat.{add-zero, zero-add}
+use native.Mathlib.Decide.{ℕ_discrete, dec_lt}
+use borrow.Author.Tests.{eqb-true, eqb-false}
+use lib.Dec.{eqb}
+use lib.ListN.{length, get_or}
+use Rattle.std.specs.Prelude.{Option, Some, None}
+use Rattle.std.specs.Option.{MatchOption, option_map, unwrap_or}
+use Rattle.std.specs.List.{between}
+use Rattle.std.proofs.lemmas.List.Edits.{length-between, get_or-between}
 use Rattle.rules.specs.Form.{search}
+use Rattle.tree.specs.Search.{found, found-by}
 
-pub search-to : (passes : ℕ → Bool) (i count : ℕ) → search passes i count ≤ i + count
-unfolding search
-search-to passes i zero = omega arith
-search-to passes i (suc count) = go (passes i) (search-to passes (suc i) count)
-  where
-    go : (b : Bool) → search passes (suc i) count ≤ suc i + count → cond b (search passes (suc i) count) i ≤ i + suc count
-    go true h = omega arith
-    go false h = omega arith
+-- The places from i to s passed, and s failed or is the end.
+pub record Ended (p : ℕ → Bool) (i n s : ℕ) : Type 0 where
+  pub low : i ≤ s
+  pub high : s ≤ n
+  pub passed : (k : ℕ) → i ≤ k → k < s → p k ≡ true
+  pub fails : s < n → p s ≡ false
 
--- A stretch in which every place passes is skipped.
-pub search-skip : (p : ℕ → Bool) (i a b : ℕ) → search p i a ≡ i + a → search p i (a + b) ≡ search p (i + a) b
+pub search-ended : (p : ℕ → Bool) (i count : ℕ) → Ended p i (i + count) (search p i count)
 unfolding search
-search-skip p i zero b e = rw (zero-add, add-zero)
-search-skip p i (suc a) b e =
-    let one : suc a + b ≡ suc (a + b) = omega arith in
-    let on : i + suc a ≡ suc i + a = omega arith in
-    rw (one, on) (go (p i) (rw on at e) (search-skip p (suc i) a b))
+search-ended p i zero = record { low = omega arith; high = omega arith; passed = λ k l m. absurd (omega arith); fails = λ h. absurd (omega arith) }
+search-ended p i (suc count) = go (p i) refl (search-ended p (suc i) count)
   where
-    go : (t : Bool) → cond t (search p (suc i) a) i ≡ suc i + a → (search p (suc i) a ≡ suc i + a → search p (suc i) (a + b) ≡ search p (suc i + a) b)
-        → cond t (search p (suc i) (a + b)) i ≡ search p (suc i + a) b
-    go true f rest = rest f
-    go false f rest = absurd (omega arith)
-
--- A stretch with a place that fails ends the search.
-pub search-ends : (p : ℕ → Bool) (i a b : ℕ) → search p i a < i + a → search p i (a + b) ≡ search p i a
-unfolding search
-search-ends p i zero b h = absurd (omega arith)
-search-ends p i (suc a) b h =
-    let one : suc a + b ≡ suc (a + b) = omega arith in
-    rw one (go (p i) h (search-ends p (suc i) a b))
-  where
-    go : (t : Bool) → cond t (search p (suc i) a) i < i + suc a → (search p (suc i) a < suc i + a → search p (suc i) (a + b) ≡ search p (suc i) a)
-        → cond t (search p (suc i) (a + b)) i ≡ cond t (search p (suc i) a) i
-    go true k rest = rest (omega arith)
-    go false k rest = refl
+    go : (t : Bool) → p i ≡ t → Ended p (suc i) (suc i + count) (search p (suc i) count) → Ended p i (i + suc count) (cond t (search p (suc i) count) i)
+    go true e r = record {
+      low = omega (arith, r.low);
+      high = omega (arith, r.high);
+      passed = λ k l m. dite (ℕ_discrete k i) (λ (s : k ≡ i). rw s e) (λ ne. r.passed k (omega arith) m);
+      fails = λ h. r.fails (omega arith);
+    }
+    go false e r = record { low = omega arith; high = omega arith; passed = λ k l m. absurd (omega arith); fails = λ h. e }
 
 -- Where a second test passes whatever a first one does, its search goes on from where the first one's ended.
 pub search-further : (p q : ℕ → Bool) → ((j : ℕ) → p j ≡ true → q j ≡ true) → (i count : ℕ)
@@ -55,3 +51,71 @@ search-further p q more i (suc count) = go (p i) refl (search-further p q more (
         let on : i + suc count ≡ suc i + count = omega arith in
         rw (more i e, on) rest
     go false e rest = let all : i + suc count - i ≡ suc count = omega arith in rw all
+
+-- The place that was found, or the end, is where the search ends.
+pub found-or_end : (p : ℕ → Bool) (i n : ℕ) → i ≤ n → unwrap_or (found p i (n - i)) n ≡ search p i (n - i)
+unfolding found
+found-or_end p i n l = go (eqb (search p i (n - i)) (i + (n - i))) refl
+  where
+    go : (b : Bool) → eqb (search p i (n - i)) (i + (n - i)) ≡ b → unwrap_or (cond b None (Some (search p i (n - i)))) n ≡ search p i (n - i)
+    go true e = let at : search p i (n - i) ≡ i + (n - i) = eqb-true _ _ e in omega arith
+    go false e = refl
+
+-- What is known of the first place from i on and below n that fails, if there is one.
+abbrev FirstFailing : (ℕ → Bool) → ℕ → ℕ → Option ℕ → Type 0
+FirstFailing p i n r = MatchOption r ((k : ℕ) → i ≤ k → k < n → p k ≡ true) (λ j. (i ≤ j) × (j < n) × (p j ≡ false) × ((k : ℕ) → i ≤ k → k < j → p k ≡ true))
+
+found_says : (p : ℕ → Bool) (i count : ℕ) → FirstFailing p i (i + count) (found p i count)
+unfolding found
+found_says p i count = go (eqb (search p i count) (i + count)) refl (search-ended p i count)
+  where
+    go : (b : Bool) → eqb (search p i count) (i + count) ≡ b → Ended p i (i + count) (search p i count) → FirstFailing p i (i + count) (cond b None (Some (search p i count)))
+    go true e r = let end : search p i count ≡ i + count = eqb-true _ _ e in λ k l m. r.passed k l (omega arith)
+    go false e r =
+        let below : search p i count < i + count = omega (arith, r.high, eqb-false _ _ e) in
+        (r.low, below, r.fails below, r.passed)
+
+pub found-below : (p : ℕ → Bool) (n j : ℕ) → Some j ≡ found p 0 n → j < n
+found-below p n j e = let says : FirstFailing p 0 (0 + n) (Some j) = subst (λ r. FirstFailing p 0 (0 + n) r) (sym e) (found_says p 0 n) in omega (arith, says.1)
+
+module _ (p : ℕ → Bool) (i a b : ℕ) where
+  -- A stretch in which every place passes is skipped.
+  pub found-skip : None ≡ found p i a → found p i (a + b) ≡ found p (i + a) b
+  found-skip e = sym (found-by p i (a + b) (i + a + b) (omega arith) (found p (i + a) b) (go (found p (i + a) b) (found_says p (i + a) b)))
+    where
+      before : (k : ℕ) → i ≤ k → k < i + a → p k ≡ true
+      before = subst (λ r. FirstFailing p i (i + a) r) (sym e) (found_says p i a)
+
+      go : (r : Option ℕ) → FirstFailing p (i + a) (i + a + b) r → FirstFailing p i (i + a + b) r
+      go None h = λ k l m. dite (dec_lt k (i + a)) (λ below. before k l below) (λ past. h k (omega arith) m)
+      go (Some j) h = (omega (arith, h.0), h.1, h.2, λ k l m. dite (dec_lt k (i + a)) (λ below. before k l below) (λ past. h.3 k (omega arith) m))
+
+  -- A stretch with a place that fails ends the search.
+  pub found-ends : (j : ℕ) → Some j ≡ found p i a → Some j ≡ found p i (a + b)
+  found-ends j e =
+      let says : FirstFailing p i (i + a) (Some j) = subst (λ r. FirstFailing p i (i + a) r) (sym e) (found_says p i a) in
+      found-by p i (a + b) (i + (a + b)) refl (Some j) (says.0, omega (arith, says.1), says.2, says.3)
+
+-- A search of a part of a list is the search of the list there.
+module _ (t : ℕ → Bool) (xs : List ℕ) (from end : ℕ) (l : from ≤ end) (m : end ≤ length xs) where
+  there : (k : ℕ) → from ≤ k → k < end → t (get_or (between from end xs) (k - from) 0) ≡ t (get_or xs k 0)
+  there k low high =
+      let back : from + (k - from) ≡ k = omega arith in
+      ap t (get_or-between xs from end (k - from) 0 (omega arith) ∙ ap (λ i. get_or xs i 0) back)
+
+  pub found-part : (r : Option ℕ) → r ≡ found (λ k. t (get_or (between from end xs) k 0)) 0 (length (between from end xs))
+      → option_map (λ j. from + j) r ≡ found (λ k. t (get_or xs k 0)) from (end - from)
+  found-part r e =
+      found-by (λ k. t (get_or xs k 0)) from (end - from) end (omega arith) (option_map (λ j. from + j) r)
+      (go r (subst (λ r. FirstFailing (λ k. t (get_or (between from end xs) k 0)) 0 (0 + length (between from end xs)) r) (sym e) (found_says _ 0 (length (between from end xs)))))
+    where
+      long : length (between from end xs) ≡ end - from
+      long = length-between xs from end m
+
+      go : (r : Option ℕ) → FirstFailing (λ k. t (get_or (between from end xs) k 0)) 0 (0 + length (between from end xs)) r → FirstFailing (λ k. t (get_or xs k 0)) from end (option_map (λ j. from + j) r)
+      go None h = λ k low high. sym (there k low high) ∙ h (k - from) (omega arith) (omega (arith, long))
+      go (Some j) h =
+          let high : from + j < end = omega (arith, h.1, long) in
+          let back : from + j - from ≡ j = omega arith in
+          let here : t (get_or (between from end xs) j 0) ≡ t (get_or xs (from + j) 0) = rw back at (there (from + j) (omega arith) high) in
+          (omega arith, high, sym here ∙ h.2, λ k low below. sym (there k low (omega arith)) ∙ h.3 (k - from) (omega arith) (omega arith))

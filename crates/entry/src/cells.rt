@@ -1,120 +1,126 @@
 // Where the cells are: "the store, then every local scalar, counter and array of the image in variable order".
-// The table of slots has four numbers for each variable: its first cell, how many it has, their size, its secrecy.
-ghost use Rattle.std.specs.Prelude.{◌≡◌, [], ◌+◌, ◌*◌, ◌-◌, ◌<◌, ◌≤◌, length, get_or};
+// The table of slots says for each variable where it lives.
+ghost use Rattle.std.specs.Prelude.{◌≡◌, ◌+◌, ◌*◌, ◌-◌, ◌<◌, ◌≤◌, length, get_or};
 ghost use Rattle.rules.specs.Image.{is_secret};
 ghost use Rattle.rules.specs.Form.{search};
+ghost use Rattle.rules.specs.Walk.{type_of};
 ghost use Rattle.rules.specs.Machine.{no_slot};
-ghost use Rattle.rules.specs.Run.{room_before, home, store_slots, sum};
+ghost use Rattle.rules.specs.Run.{room_of, room_before, home, store_slots, sum};
 ghost use Rattle.records.specs.Records.{as_header, as_procedure, as_variable};
-ghost use Rattle.entry.specs.Cells.{parts, ends_at, cells_by};
+ghost use Rattle.records.specs.Parts.{as_parts};
+ghost use Rattle.entry.specs.Cells.{ends_at, cells_by, Walked};
 ghost use Rattle.entry.specs.Slots.{slot_placed, slots_placed};
 
-use records::{Header, Procedure, Variable};
+use records::{Header, Parts, Procedure, Slot, Variable};
 
-// The lowest procedure from `from` on whose variables end behind x, or how many procedures there are.
+// The lowest procedure from `from` on whose variables end behind x, or how many procedures there are: a number and no `Option`, since
+// the walk through the variables goes on from it.
 fn owner_from(procedures: &[u8], count: u16, from: u16, x: u16) -> u16
     requires { from ≤ count }
     ensures { (result ≡ search (ends_at procedures.now x) from (count - from)) × (result ≤ count) }
 {
-    let mut p = from;
-    while p < count {
-        let q = records::procedure_at(procedures, p);
-        if (x as u32) < q.first as u32 + q.count as u32 {
-            return p;
-        }
-        p += 1;
-    }
-    p
+    (from..count)
+        .find(|p| {
+            let q = records::procedure_at(procedures, *p);
+            u32::from(x) < u32::from(q.first) + u32::from(q.count)
+        })
+        .unwrap_or(count)
 }
 
 // How many cells variable x has as a local of the procedure q: parameters and constants have none.
+#[tactic(auto, unfolding(crate::specs::Cells::cells_by))]
 fn cells_of(q: Procedure, v: Variable, x: u16) -> u16
     ensures { result ≡ cells_by (as_procedure q) (as_variable v) x }
 {
-    if (x as u32) < q.first as u32 + q.parameters as u32 {
-        return 0;
+    if u32::from(x) < u32::from(q.first) + u32::from(q.parameters) || v.is_constant() {
+        0
+    } else if v.is_array() {
+        v.extra
+    } else {
+        1
     }
-    let kind = v.kind;
-    match kind {
-        1 => v.extra,
-        2 => 0,
-        _ => 1,
+}
+
+// A variable on the way through all of them: its owner, its record, and how many cells it has as a local.
+#[derive(Clone, Copy)]
+struct Local {
+    owner: u16,
+    variable: Variable,
+    cells: u16,
+}
+
+// Variable x, where the owner of the one before it is `from`.
+fn local_at(h: Header, parts: &Parts, from: u16, x: u16) -> Local
+    requires { Walked (as_header h) (as_parts parts.now) from x }
+    ensures walked { Walked (as_header h) (as_parts parts.now) result.owner (x + 1) }
+    ensures read { (as_variable result.variable ≡ type_of (as_parts parts.now) x) × (result.cells ≡ room_of (as_header h) (as_parts parts.now) x) }
+{
+    let owner = owner_from(parts.procedures, h.procedures, from, x);
+    let variable = records::variable_at(parts.variables, x);
+    let cells = cells_of(records::procedure_at(parts.procedures, owner), variable, x);
+    Local {
+        owner,
+        variable,
+        cells,
     }
 }
 
 // How many cells all locals of the image have together.
-pub fn room(h: Header, procedures: &[u8], variables: &[u8]) -> u64
-    ensures { (result ≡ room_before (as_header h) (parts procedures.now variables.now) h.variables) × (result < 4294967296) }
+pub fn room(h: Header, parts: &Parts) -> u64
+    ensures { (result ≡ room_before (as_header h) (as_parts parts.now) h.variables) × (result < 4294967296) }
 {
-    let mut total: u64 = 0;
-    let mut owner: u16 = 0;
-    let mut x: u16 = 0;
-    while x < h.variables {
-        owner = owner_from(procedures, h.procedures, owner, x);
-        total += cells_of(
-            records::procedure_at(procedures, owner),
-            records::variable_at(variables, x),
-            x,
-        ) as u64;
-        x += 1;
+    let mut total = 0;
+    let mut owner = 0;
+    for x in 0..h.variables {
+        let local = local_at(h, parts, owner, x);
+        total += u64::from(local.cells);
+        owner = local.owner;
     }
     total
 }
 
-// The row of variable x: its cells from base on, its size and its secrecy.
-fn place(slots: &mut [u16], x: u16, base: u16, cells: u16, v: Variable)
-    requires { x * 4 + 3 < length slots.old }
+// The slot of variable x: its cells from base on, its size and its secrecy.
+#[tactic(auto, unfolding(crate::specs::Slots::slot_placed))]
+fn place(slots: &mut [Slot], x: u16, base: u16, cells: u16, v: Variable)
+    requires { x < length slots.old }
     ensures { slots.new ≡ slot_placed slots.old x (record { base = base; cells = cells; width = v.size; hidden = is_secret (as_variable v) }) }
 {
-    let at = x as usize * 4;
-    slots[at] = base;
-    slots[at + 1] = cells;
-    slots[at + 2] = v.size as u16;
-    if v.secrecy == 1 {
-        slots[at + 3] = 1;
-    } else {
-        slots[at + 3] = 0;
-    }
+    slots[usize::from(x)] = Slot {
+        base,
+        cells,
+        width: u16::from(v.size),
+        hidden: v.is_secret(),
+    };
 }
 
-// The rows of all variables, each at its home behind the store, which has `stored` cells; and how many cells there are.
-pub fn place_locals(
-    h: Header,
-    procedures: &[u8],
-    variables: &[u8],
-    stored: u16,
-    slots: &mut [u16],
-) -> u16
-    requires { (h.variables * 4 ≤ length slots.old) × (stored + room_before (as_header h) (parts procedures.now variables.now) h.variables ≤ 4096) }
-    ensures { (result ≡ stored + room_before (as_header h) (parts procedures.now variables.now) h.variables)
-        × (slots.new ≡ slots_placed (home (as_header h) (parts procedures.now variables.now) stored) 0 h.variables slots.old) }
+// The slots of all variables, each at its home behind the store, which has `stored` cells; and how many cells there are.
+pub fn place_locals(h: Header, parts: &Parts, stored: u16, slots: &mut [Slot]) -> u16
+    requires { (h.variables ≤ length slots.old) × (stored + room_before (as_header h) (as_parts parts.now) h.variables ≤ 4096) }
+    ensures { (result ≡ stored + room_before (as_header h) (as_parts parts.now) h.variables)
+        × (slots.new ≡ slots_placed (home (as_header h) (as_parts parts.now) stored) 0 h.variables slots.old) }
 {
     let mut base = stored;
-    let mut owner: u16 = 0;
-    let mut x: u16 = 0;
-    while x < h.variables {
-        owner = owner_from(procedures, h.procedures, owner, x);
-        let v = records::variable_at(variables, x);
-        let cells = cells_of(records::procedure_at(procedures, owner), v, x);
-        place(slots, x, base, cells, v);
-        base += cells;
-        x += 1;
+    let mut owner = 0;
+    for x in 0..h.variables {
+        let local = local_at(h, parts, owner, x);
+        place(slots, x, base, local.cells, local.variable);
+        base += local.cells;
+        owner = local.owner;
     }
     base
 }
 
-// The rows of the last procedure's parameters, from variable `first` on: the store's cells in order, by these lengths.
-pub fn place_store(variables: &[u8], first: u16, lengths: &[u64], slots: &mut [u16])
-    requires { ((first + length lengths.now) * 4 ≤ length slots.old) × (first + length lengths.now ≤ 1024) × (sum lengths.now ≤ 4096) }
-    ensures { slots.new ≡ slots_placed (λ y. get_or (store_slots (parts [] variables.now) first 0 lengths.now) (y - first) no_slot) first (length lengths.now) slots.old }
+// The slots of the last procedure's parameters, from variable `first` on: the store's cells in order, by these lengths.
+pub fn place_store(parts: &Parts, first: u16, lengths: &[u64], slots: &mut [Slot])
+    requires { (first + length lengths.now ≤ length slots.old) × (first + length lengths.now ≤ 1024) × (sum lengths.now ≤ 4096) }
+    ensures { slots.new ≡ slots_placed (λ y. get_or (store_slots (as_parts parts.now) first 0 lengths.now) (y - first) no_slot) first (length lengths.now) slots.old }
 {
-    let mut base: u16 = 0;
-    let mut j: usize = 0;
-    while j < lengths.len() {
+    let mut base = 0;
+    for (j, n) in lengths.iter().enumerate() {
         let x = first + j as u16;
-        let cells = lengths[j] as u16;
-        place(slots, x, base, cells, records::variable_at(variables, x));
+        let v = records::variable_at(parts.variables, x);
+        let cells = *n as u16;
+        place(slots, x, base, cells, v);
         base += cells;
-        j += 1;
     }
 }

@@ -13,10 +13,9 @@ use Rattle.rules.specs.Tree.{LValue, whole, entry, Stmt, body_of}
 use Rattle.rules.specs.Machine.{Slot, no_slot, Env, Found, found, fault, after, and_then, inside, eval, address, lent, arguments, noted, on_found, reading, choose, exec}
 use Rattle.rules.specs.Run.{env_of, calls_below}
 use Rattle.records.specs.Truth.{chosen}
-use Rattle.expressions.specs.Relations.{Traced, Good, Answers, finding, failing, After, Holds, Matches, Rows, Apart, Lends}
+use Rattle.expressions.specs.Relations.{Table, Run, Traced, Good, Answers, finding, failing, After, Holds, Matches, Rows, Apart, Lends}
 use Rattle.expressions.specs.Names.{WithinL, WithinLs}
 use Rattle.expressions.specs.Laws.{reading-refused}
-use Rattle.expressions.specs.declared.Run.{Run}
 use Rattle.executors.specs.World.{low_of, high_of, World, Stands, Ended, Ran}
 use Rattle.executors.specs.Standing.{kept_both, kept_below, called_stands, called_kept}
 use Rattle.executors.specs.Ways.{arguments_at, stmt_at, Fine, FineCall, running, calling}
@@ -83,13 +82,13 @@ module _ (ρ : Env) (σ : List ℕ) (lo hi : ℕ) (good : (y : ℕ) → lo ≤ y
 -- ---- the ways through a call
 
 -- The rows of the called procedure's parameters stand before the caller's own.
-pub rows_below : {nodes procedures variables constants : List ℕ} (w : World nodes procedures variables constants) {p : ℕ} {slots : List ℕ} {ρ : Env} → Stands w p slots ρ
+pub rows_below : {nodes procedures variables constants : List ℕ} (w : World nodes procedures variables constants) {p : ℕ} {slots : Table} {ρ : Env} → Stands w p slots ρ
     → (q a : ℕ) → FineCall w p q a → (y : ℕ) → y ≡ low_of procedures q → y + length (arguments_at w a) ≤ low_of procedures p
 rows_below w {p} st q a fine y e = omega (arith, e, fine.as_many, w.apart q p fine.smaller st.mine, w.parameters q (omega (arith, fine.smaller, st.mine)))
 
-module _ {nodes procedures variables constants : List ℕ} (w : World nodes procedures variables constants) {p : ℕ} {slots : List ℕ} {ρ : Env} (st : Stands w p slots ρ)
+module _ {nodes procedures variables constants : List ℕ} (w : World nodes procedures variables constants) {p : ℕ} {slots : Table} {ρ : Env} (st : Stands w p slots ρ)
     (q a : ℕ) (fine : FineCall w p q a) (y : ℕ) (own : y ≡ low_of procedures q)
-    (slots₁ : List ℕ) (rows_apart : Apart slots slots₁ y (length (arguments_at w a)))
+    (slots₁ : Table) (rows_apart : Apart slots slots₁ y (length (arguments_at w a)))
     (cells trace trace₁ : List ℕ) (run run₁ : Run) (left : run₁.left ≡ run.left)
     (rows-lent : (events : List ℕ) → Traced trace run.entries events → Lends (arguments ρ cells (arguments_at w a)) y events slots₁ trace₁ run₁)
     (d : Direction) where
@@ -108,7 +107,7 @@ module _ {nodes procedures variables constants : List ℕ} (w : World nodes proc
     kept = called_kept w st slots₁ q fine.smaller (rw fine.as_many at apart);
   }
 
-  module _ (z : run₁.number ≡ 0) (cells₂ slots₂ trace₂ : List ℕ) (run₂ : Run) (b : ℕ) (body : b ≡ (procedure_of procedures q).body) (long : length slots₁ ≡ length slots)
+  module _ (z : run₁.number ≡ 0) (cells₂ : List ℕ) (slots₂ : Table) (trace₂ : List ℕ) (run₂ : Run) (b : ℕ) (body : b ≡ (procedure_of procedures q).body) (long : length slots₁ ≡ length slots)
       (ran : (ρ' : Env) → Stands w q slots₁ ρ' → Fine w q (stmt_at w b) → Ran procedures q (running w q d ρ' (stmt_at w b)) cells slots₁ trace₁ run₁ cells₂ slots₂ trace₂ run₂) where
     body_is : body_of w.h w.s q ≡ stmt_at w b
     unfolding body_of

@@ -2,23 +2,21 @@
 use Rattle.std.specs.Prelude.{ℕ, zero, suc, ◌≡◌, refl, List, set}
 use Rattle.std.proofs.Common.{sym, ap, ◌∙◌, arith}
 use Rattle.rules.specs.Machine.{State, Out, done, Command, Found, noted, holding, step, step_from, on_found, reading, next, both, put}
-use Rattle.expressions.specs.Relations.{Answers, finding, failing, Gets, After, Holds, Matches, goes_on, is_stopped, Does}
-use Rattle.expressions.specs.declared.Run.{Run}
-use Rattle.expressions.specs.declared.Valued.{Valued}
+use Rattle.expressions.specs.Relations.{Table, Run, Valued, Answers, finding, failing, Gets, After, Holds, Matches, goes_on, is_stopped, Does}
 use Rattle.executors.specs.World.{Ran, Reaches, Leads}
 
 module _ {procedures : List ℕ} {p : ℕ} where
   -- What writes no rows.
-  pub finished : {f : Command} {cells slots trace cells' trace' : List ℕ} {run run' : Run} → Does f cells trace run cells' trace' run'
+  pub finished : {f : Command} {cells : List ℕ} {slots : Table} {trace cells' trace' : List ℕ} {run run' : Run} → Does f cells trace run cells' trace' run'
       → Ran procedures p f cells slots trace run cells' slots trace' run'
   finished d c h = record { is = d c h; kept = record { row = λ y u. refl } }
 
-  pub led : {f g : Command} {cells slots trace cells₁ trace₁ cells' slots' trace' : List ℕ} {run run₁ run' : Run}
+  pub led : {f g : Command} {cells : List ℕ} {slots : Table} {trace cells₁ trace₁ cells' : List ℕ} {slots' : Table} {trace' : List ℕ} {run run₁ run' : Run}
       → Leads f cells trace run g cells₁ trace₁ run₁ → Ran procedures p g cells₁ slots trace₁ run₁ cells' slots' trace' run'
       → Ran procedures p f cells slots trace run cells' slots' trace' run'
   led l r c h = let x = l c h in let e = r x.to x.holds in record { is = rw x.same e.is; kept = e.kept }
 
-  pub ran-same : {f g : Command} {cells slots trace cells' slots' trace' : List ℕ} {run run' : Run} → f ≡ g
+  pub ran-same : {f g : Command} {cells : List ℕ} {slots : Table} {trace cells' : List ℕ} {slots' : Table} {trace' : List ℕ} {run run' : Run} → f ≡ g
       → Ran procedures p g cells slots trace run cells' slots' trace' run' → Ran procedures p f cells slots trace run cells' slots' trace' run'
   ran-same e r c h = let x = r c h in record { is = rw (ap (λ k. k c) e) x.is; kept = x.kept }
 

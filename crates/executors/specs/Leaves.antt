@@ -1,5 +1,5 @@
 -- One law for each case of a node, once its step is taken: what is done, or what is left to do.
-use Rattle.std.specs.Prelude.{ℕ, ◌≡◌, refl, List, Bool, true, false, not, eqb}
+use Rattle.std.specs.Prelude.{ℕ, ◌≡◌, refl, List, Bool, true, false, not, eqb, Ok, Err}
 use Rattle.std.proofs.Common.{sym, ap, ◌∙◌, eq-eqb, ne_eqb}
 use Rattle.rules.specs.Words.{Direction, forward, inverse, opposite, turned, update_of}
 use Rattle.rules.specs.Tree.{Expr, range}
@@ -8,13 +8,13 @@ use Rattle.records.specs.Cases.{place_of, Means}
 use Rattle.records.specs.declared.LValue as case
 use Rattle.records.specs.declared.LValue.TheVariants.{Variable, Element, Unsafe}
 use Rattle.records.specs.declared.Node.TheVariants.{Empty, Update, Swap, ConditionalSwap, If, For, Call, Uncall, Block}
-use Rattle.expressions.specs.Relations.{slot_of, Good, root_of, Gets, After, goes_on, Does, direction_of}
+use Rattle.expressions.specs.Relations.{Table, Run, Valued, slot_of, Good, root_of, Gets, goes_on, Does, direction_of}
 use Rattle.expressions.specs.Names.{In, WithinE, WithinL, WithinXs, Within}
 use Rattle.expressions.specs.Commands.{updating, exchanging, exchanging_if}
-use Rattle.expressions.specs.Laws.{value_refused}
+use Rattle.expressions.specs.Results.{reads_refused}
+use Rattle.expressions.specs.Standing.{valued, ran}
+use Rattle.records.specs.declared.refusal.Refusal.{Refusal}
 use Rattle.expressions.specs.Agreement.{eval-same, updating-same, exchanging-same, exchanging_if-same}
-use Rattle.expressions.specs.declared.Run.{Run}
-use Rattle.expressions.specs.declared.Valued.{Valued}
 use Rattle.executors.specs.World.{low_of, high_of, World, Stands, Leads}
 use Rattle.executors.specs.Doing.{value_leads, leads_on}
 use Rattle.executors.specs.Ways.{performing, expr_at, stmt_at, stmts_at, Fine, FineCall, running, performed, calling, looping, deciding, bounding, closing}
@@ -30,7 +30,7 @@ unfolding direction_of turned opposite
 direction_turned true = refl
 direction_turned false = refl
 
-module _ {nodes procedures variables constants : List ℕ} (w : World nodes procedures variables constants) {p : ℕ} {slots : List ℕ} {ρ : Env} (st : Stands w p slots ρ) where
+module _ {nodes procedures variables constants : List ℕ} (w : World nodes procedures variables constants) {p : ℕ} {slots : Table} {ρ : Env} (st : Stands w p slots ρ) where
   abbrev lo : ℕ
   lo = low_of procedures p
 
@@ -38,7 +38,7 @@ module _ {nodes procedures variables constants : List ℕ} (w : World nodes proc
   hi = high_of procedures p
 
   root_in : (l : case.LValue) → WithinL lo hi (place_of w.h w.s l) → In lo hi (root_of l)
-  unfolding WithinL root_of
+  unfolding WithinL
   root_in (Variable n x) i = i
   root_in (Element n x e) i = i.0
   root_in (Unsafe n x e) i = i.0
@@ -124,48 +124,52 @@ module _ {nodes procedures variables constants : List ℕ} (w : World nodes proc
 
   -- ---- an if, once its condition is known
 
-  module _ (d : Direction) (cells trace : List ℕ) (run : Run) (trace' : List ℕ) (run' : Run) (v : Valued) (e : ℕ) (within : WithinE lo hi (expr_at w e))
-      (gets : Gets (eval (slot_of slots) cells (expr_at w e)) trace run.entries trace' v) (follows : After run v.number v.place v.entries run') where
-    gets_agrees : Gets (eval ρ cells (expr_at w e)) trace run.entries trace' v
-    gets_agrees = rw (← eval-agrees (expr_at w e) within cells) gets
+  module _ (cells : List ℕ) (e : ℕ) (within : WithinE lo hi (expr_at w e)) where
+    agrees : {trace trace' : List ℕ} {entries : ℕ} {v : Valued} → Gets (eval (slot_of slots) cells (expr_at w e)) trace entries trace' v → Gets (eval ρ cells (expr_at w e)) trace entries trace' v
+    agrees g = rw (← eval-agrees (expr_at w e) within cells) g
 
     -- What is worked out first, refused.
-    pub first_refused : (v.number ≡ 0 → ⊥) → (f : ℕ → Command) → Does (reading (λ σ. eval ρ σ (expr_at w e)) f) cells trace run cells trace' run'
-    first_refused ne f = value_refused (λ σ. eval ρ σ (expr_at w e)) f v gets_agrees follows ne
+    pub first_refused : {trace trace' : List ℕ} {left entries entries' : ℕ} (r : Refusal) → Gets (eval (slot_of slots) cells (expr_at w e)) trace entries trace' (valued (Err r) entries') → (f : ℕ → Command)
+        → Does (reading (λ σ. eval ρ σ (expr_at w e)) f) cells trace (ran (Ok tt) left entries) cells trace' (ran (Err r) left entries')
+    first_refused r g f = reads_refused (λ σ. eval ρ σ (expr_at w e)) f r (agrees g)
 
-    module _ (z : v.number ≡ 0) where
-      pub first_known : (f : ℕ → Command) → Leads (reading (λ σ. eval ρ σ (expr_at w e)) f) cells trace run (f v.value) cells trace' run'
-      first_known f = value_leads (λ σ. eval ρ σ (expr_at w e)) f v gets_agrees follows z
+    module _ {trace trace' : List ℕ} {left entries entries' : ℕ} (v : ℕ) (g : Gets (eval (slot_of slots) cells (expr_at w e)) trace entries trace' (valued (Ok v) entries')) where
+      pub first_known : (f : ℕ → Command)
+          → Leads (reading (λ σ. eval ρ σ (expr_at w e)) f) cells trace (ran (Ok tt) left entries) (f v) cells trace' (ran (Ok tt) left entries')
+      first_known f =
+          value_leads (λ σ. eval ρ σ (expr_at w e)) f (valued (Ok v) entries') (agrees g) (record { number_is = refl; place_is = refl; left_is = refl; entries_are = refl }) refl
 
-      module _ (chosen otherwise : ℕ) where
-        pub if_not : v.value ≡ 0 → Leads (deciding w p d ρ e chosen otherwise) cells trace run (running w p d ρ (stmt_at w otherwise)) cells trace' run'
+      module _ (d : Direction) (chosen otherwise : ℕ) where
+        pub if_not : v ≡ 0
+            → Leads (deciding w p d ρ e chosen otherwise) cells trace (ran (Ok tt) left entries) (running w p d ρ (stmt_at w otherwise)) cells trace' (ran (Ok tt) left entries')
         unfolding choose
-        if_not o = rw (eq-eqb v.value 0 o) at (first_known (λ u. choose (eqb u 0) (running w p d ρ (stmt_at w otherwise)) (running w p d ρ (stmt_at w chosen))))
+        if_not o = rw (eq-eqb v 0 o) at (first_known (λ u. choose (eqb u 0) (running w p d ρ (stmt_at w otherwise)) (running w p d ρ (stmt_at w chosen))))
 
-        pub if_so : (v.value ≡ 0 → ⊥) → Leads (deciding w p d ρ e chosen otherwise) cells trace run (running w p d ρ (stmt_at w chosen)) cells trace' run'
+        pub if_so : (v ≡ 0 → ⊥)
+            → Leads (deciding w p d ρ e chosen otherwise) cells trace (ran (Ok tt) left entries) (running w p d ρ (stmt_at w chosen)) cells trace' (ran (Ok tt) left entries')
         unfolding choose
-        if_so o = rw (ne_eqb v.value 0 o) at (first_known (λ u. choose (eqb u 0) (running w p d ρ (stmt_at w otherwise)) (running w p d ρ (stmt_at w chosen))))
+        if_so o = rw (ne_eqb v 0 o) at (first_known (λ u. choose (eqb u 0) (running w p d ρ (stmt_at w otherwise)) (running w p d ρ (stmt_at w chosen))))
 
   -- ---- a for, once its bounds are known
 
   module _ (d : Direction) (n x : ℕ) (mine : In lo hi x) (a b m : ℕ) (within_a : WithinE lo hi (expr_at w a)) (within_b : WithinE lo hi (expr_at w b))
-      (cells trace : List ℕ) (run : Run) (trace₁ : List ℕ) (run₁ : Run) (v : Valued)
-      (gets-a : Gets (eval (slot_of slots) cells (expr_at w a)) trace run.entries trace₁ v) (follows-a : After run v.number v.place v.entries run₁) (z : v.number ≡ 0)
-      (trace₂ : List ℕ) (run₂ : Run) (u : Valued)
-      (gets-b : Gets (eval (slot_of slots) cells (expr_at w b)) trace₁ run₁.entries trace₂ u) (follows-b : After run₁ u.number u.place u.entries run₂) where
+      (cells : List ℕ) where
+    abbrev turning : ℕ → ℕ → Command
+    turning v u = counted n (ρ x).base v u (running w p d ρ (stmt_at w m))
+
     abbrev rest : ℕ → Command
-    rest v = reading (λ σ. eval ρ σ (expr_at w b)) (λ u. counted n (ρ x).base v u (running w p d ρ (stmt_at w m)))
+    rest v = reading (λ σ. eval ρ σ (expr_at w b)) (turning v)
 
-    known : Leads (bounding w p d ρ n x a b m) cells trace run (rest v.value) cells trace₁ run₁
-    known = first_known d cells trace run trace₁ run₁ v a within_a gets-a follows-a z rest
+    module _ {trace trace₁ trace₂ : List ℕ} {left entries entries₁ entries₂ : ℕ} (v : ℕ) (g : Gets (eval (slot_of slots) cells (expr_at w a)) trace entries trace₁ (valued (Ok v) entries₁)) where
+      pub second_refused : (r : Refusal) → Gets (eval (slot_of slots) cells (expr_at w b)) trace₁ entries₁ trace₂ (valued (Err r) entries₂)
+          → Does (bounding w p d ρ n x a b m) cells trace (ran (Ok tt) left entries) cells trace₂ (ran (Err r) left entries₂)
+      second_refused r g' c h =
+          let y = first_known cells a within_a v g rest c h in
+          rw y.same (first_refused cells b within_b r g' (turning v) y.to y.holds)
 
-    pub second_refused : (u.number ≡ 0 → ⊥) → Does (bounding w p d ρ n x a b m) cells trace run cells trace₂ run₂
-    second_refused ne c h =
-        let y = known c h in
-        rw y.same (first_refused d cells trace₁ run₁ trace₂ run₂ u b within_b gets-b follows-b ne (λ u. counted n (ρ x).base v.value u (running w p d ρ (stmt_at w m))) y.to y.holds)
-
-    pub bounds_known : u.number ≡ 0 → (i : ℕ) → i ≡ (slot_of slots x).base
-        → Leads (bounding w p d ρ n x a b m) cells trace run (looping w p d ρ (record { node = n; cell = i; first = v.value; second = u.value; body = m })) cells trace₂ run₂
-    bounds_known y i e =
-        let q : i ≡ (ρ x).base = e ∙ ap (λ (k : Slot). k.base) (st.agree.rows x mine.low mine.high) in
-        rw q (leads_on known (first_known d cells trace₁ run₁ trace₂ run₂ u b within_b gets-b follows-b y (λ u. counted n (ρ x).base v.value u (running w p d ρ (stmt_at w m)))))
+      pub bounds_known : (u : ℕ) → Gets (eval (slot_of slots) cells (expr_at w b)) trace₁ entries₁ trace₂ (valued (Ok u) entries₂) → (i : ℕ) → i ≡ (slot_of slots x).base
+          → Leads (bounding w p d ρ n x a b m) cells trace (ran (Ok tt) left entries) (looping w p d ρ (record { node = n; cell = i; first = v; second = u; body = m }))
+          cells trace₂ (ran (Ok tt) left entries₂)
+      bounds_known u g' i e =
+          let q : i ≡ (ρ x).base = e ∙ ap (λ (k : Slot). k.base) (st.agree.rows x mine.low mine.high) in
+          rw q (leads_on (first_known cells a within_a v g rest) (first_known cells b within_b u g' (turning v)))

@@ -6,25 +6,24 @@ use Rattle.rules.specs.Words.{Direction, forward, inverse}
 use Rattle.rules.specs.Image.{missing, node_of}
 use Rattle.rules.specs.Tree.{range}
 use Rattle.rules.specs.Machine.{Env, Command, both, in_order, exec, block_end}
-use Rattle.expressions.specs.Relations.{slot_of, goes_on, Does, direction_of}
+use Rattle.expressions.specs.Relations.{Table, Run, slot_of, goes_on, Does, direction_of}
 use Rattle.expressions.specs.Names.{WithinXs, Within}
 use Rattle.expressions.specs.Laws.{next-refused}
 use Rattle.expressions.specs.Agreement.{block_end-same}
-use Rattle.expressions.specs.declared.Run.{Run}
 use Rattle.executors.specs.World.{Statement, low_of, high_of, World, Stands, Ran}
 use Rattle.executors.specs.Standing.{kept_both, stands_on}
 use Rattle.executors.specs.Doing.{finished, goes, both-reaches}
 use Rattle.executors.specs.Ways.{stmt_at, stmts_at, Fine, running}
 use Rattle.executors.specs.Nodes.{stmts_at_lem, stmts_none}
 
-module _ {nodes procedures variables constants : List ℕ} (w : World nodes procedures variables constants) {p : ℕ} {slots : List ℕ} {ρ : Env} (st : Stands w p slots ρ)
-    (f g : Command) (cells trace : List ℕ) (run : Run) (cells₁ slots₁ trace₁ : List ℕ) (run₁ : Run)
+module _ {nodes procedures variables constants : List ℕ} (w : World nodes procedures variables constants) {p : ℕ} {slots : Table} {ρ : Env} (st : Stands w p slots ρ)
+    (f g : Command) (cells trace : List ℕ) (run : Run) (cells₁ : List ℕ) (slots₁ : Table) (trace₁ : List ℕ) (run₁ : Run)
     (first : Ran procedures p f cells slots trace run cells₁ slots₁ trace₁ run₁) where
   pub both-refused : (run₁.number ≡ 0 → ⊥) → Ran procedures p (both f g) cells slots trace run cells₁ slots₁ trace₁ run₁
   unfolding both
   both-refused ne c h = let x = first c h in record { is = next-refused g x.is ne; kept = x.kept }
 
-  pub both-on : run₁.number ≡ 0 → length slots₁ ≡ length slots → (cells₂ slots₂ trace₂ : List ℕ) (run₂ : Run)
+  pub both-on : run₁.number ≡ 0 → length slots₁ ≡ length slots → (cells₂ : List ℕ) (slots₂ : Table) (trace₂ : List ℕ) (run₂ : Run)
       → (Stands w p slots₁ ρ → Ran procedures p g cells₁ slots₁ trace₁ run₁ cells₂ slots₂ trace₂ run₂)
       → Ran procedures p (both f g) cells slots trace run cells₂ slots₂ trace₂ run₂
   both-on z long cells₂ slots₂ trace₂ run₂ second c h =
@@ -35,7 +34,7 @@ module _ {nodes procedures variables constants : List ℕ} (w : World nodes proc
 
 module _ {nodes procedures variables constants : List ℕ} (w : World nodes procedures variables constants) (p : ℕ) (d : Direction) (ρ : Env) where
   -- No statements.
-  pub none : (n : ℕ) → n ≡ missing → (cells slots trace : List ℕ) (run : Run) → Ran procedures p (running w p d ρ (stmts_at w n)) cells slots trace run cells slots trace run
+  pub none : (n : ℕ) → n ≡ missing → (cells : List ℕ) (slots : Table) (trace : List ℕ) (run : Run) → Ran procedures p (running w p d ρ (stmts_at w n)) cells slots trace run cells slots trace run
   unfolding exec
   none n e cells slots trace run c h = let t = ap (stmts_at w) e ∙ stmts_none w in record { is = rw t (goes_on h); kept = record { row = λ y u. refl } }
 
@@ -71,7 +70,7 @@ module _ {nodes procedures variables constants : List ℕ} (w : World nodes proc
         (sym q) back
 
 -- The clearing tests at a block's end.
-pub end_ran : {nodes procedures variables constants : List ℕ} (w : World nodes procedures variables constants) {p : ℕ} {slots : List ℕ} {ρ : Env} → Stands w p slots ρ
+pub end_ran : {nodes procedures variables constants : List ℕ} (w : World nodes procedures variables constants) {p : ℕ} {slots : Table} {ρ : Env} → Stands w p slots ρ
     → (n x count : ℕ) → WithinXs (low_of procedures p) (high_of procedures p) (range x count) → (cells trace : List ℕ) (run run' : Run)
     → Does (block_end n (slot_of slots) (range x count)) cells trace run cells trace run'
     → Ran procedures p (block_end n ρ (range x count)) cells slots trace run cells slots trace run'

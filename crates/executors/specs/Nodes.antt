@@ -1,5 +1,5 @@
 -- What a decoded node refers to and means, in the program that the lent parts are.
-use Rattle.std.specs.Prelude.{ℕ, ◌≤◌, ◌<◌, ◌≡◌, refl, List, [], ◌∷◌, Bool, true, ◌⊎◌, eqb, leb}
+use Rattle.std.specs.Prelude.{ℕ, ◌≤◌, ◌<◌, ◌≡◌, refl, List, [], ◌∷◌, Bool, true, ◌⊎◌, eqb, leb, Option, Some, None, Result, Ok, Err}
 use Rattle.std.proofs.Common.{ap, ◌∙◌, ⊎_elim, arith, leb-true}
 use Rattle.std.proofs.Math.Path.{subst⁻¹}
 use types.Run.{OneOf, miss}
@@ -14,21 +14,17 @@ use Rattle.rules.specs.Machine.{Env, done, step, exec}
 use Rattle.records.specs.Truth.{both, chosen, past}
 use Rattle.records.specs.Fits.{Child, next_statement_lem}
 use Rattle.records.specs.Reading.{stmts_reading, reading-missing}
-use Rattle.records.specs.Decode.{lvalue_at, with_target, decoded_by, decoded_at}
+use Rattle.records.specs.Decode.{Decoded, lvalue_at, with_target, decoded_by, decoded_at}
 use Rattle.records.specs.Cases.{Targeted, Means}
 use Rattle.records.specs.Understood.{means, refers_to, not_refused, fit_at}
 use Rattle.records.specs.declared.LValue.{LValue}
 use Rattle.records.specs.declared.LValue.TheVariants.{Variable, Element, Unsafe}
-use Rattle.records.specs.declared.Target.{Target}
-use Rattle.records.specs.declared.Target.TheVariants.{Place, Other}
+use Rattle.records.specs.declared.refusal.Refusal.{Refusal}
 use Rattle.records.specs.declared.Node as case
 use Rattle.records.specs.declared.Node.TheVariants.{Empty, Update, Swap, ConditionalSwap, If, For, Call, Uncall, Block, Constant, Value, Size, Binary, Not, Argument}
-use Rattle.records.specs.declared.Decoded.{Decoded}
-use Rattle.records.specs.declared.Decoded.TheVariants.{Is, Refused}
-use Rattle.expressions.specs.Relations.{Readable, Indexed, Chained, Does}
+use Rattle.expressions.specs.Relations.{Run, Readable, Indexed, Chained, Does}
 use Rattle.expressions.specs.Commands.{updating, exchanging, exchanging_if}
 use Rattle.expressions.specs.Laws.{step-refused}
-use Rattle.expressions.specs.declared.Run.{Run}
 use Rattle.executors.specs.World.{Leads, Code, Statement, Chain, bare, Opened, World}
 use Rattle.executors.specs.Ways.{performing, stmt_at, stmts_at, running, performed, Owes}
 use Rattle.executors.specs.Doing.{step-leads, leads_on}
@@ -79,12 +75,12 @@ not_statement (Not a) i o = i
 not_statement (Argument l m) i o = i
 
 abbrev DecodesStatement : Decoded → Type 0
-DecodesStatement (Is x) = IsStatement x
-DecodesStatement (Refused k n) = Unit
+DecodesStatement (Ok x) = IsStatement x
+DecodesStatement (Err r) = Unit
 
-with_target_lem : (t : Target) (n : ℕ) (made : LValue → Decoded) → ((l : LValue) → DecodesStatement (made l)) → DecodesStatement (with_target t n made)
-with_target_lem (Place l) n made go = go l
-with_target_lem Other n made go = tt
+with_target_lem : (t : Option LValue) (n : ℕ) (made : LValue → Decoded) → ((l : LValue) → DecodesStatement (made l)) → DecodesStatement (with_target t n made)
+with_target_lem (Some l) n made go = go l
+with_target_lem None n made go = tt
 
 decodes : (s : List ℕ) (n : ℕ) (r : rules.Node) → is_statement r.kind ≡ true → DecodesStatement (decoded_by s n r)
 unfolding decoded_by IsStatement
@@ -105,16 +101,16 @@ decodes s n r i =
     absurd (omega arith))))))))))
 
 module _ {nodes : List ℕ} {n : ℕ} (st : Statement nodes n) where
-  pub statement_case_lem : (x : case.Node) → decoded_at nodes n ≡ Is x → IsStatement x
+  pub statement_case_lem : (x : case.Node) → decoded_at nodes n ≡ Ok x → IsStatement x
   statement_case_lem x e = rw e at (decodes nodes n (node_of nodes n) st.classed)
 
   -- ---- what it refers to
 
-  pub opened_at : (x : case.Node) → decoded_at nodes n ≡ Is x → Opened nodes n x
+  pub opened_at : (x : case.Node) → decoded_at nodes n ≡ Ok x → Opened nodes n x
   opened_at x e = record { code = st.code; inside = st.inside; refers = refers_to st.code.header (bare nodes) (omega (arith, st.code.few)) st.code.fit n st.inside x e }
 
-  pub never_refused : (number place : ℕ) → decoded_at nodes n ≡ Refused number place → ⊥
-  never_refused number place e = not_refused st.code.header (bare nodes) (omega (arith, st.code.few)) st.code.fit n st.inside number place e
+  pub never_refused : (r : Refusal) → decoded_at nodes n ≡ Err r → ⊥
+  never_refused r e = not_refused st.code.header (bare nodes) (omega (arith, st.code.few)) st.code.fit n st.inside r e
 
   next-or_none : ((node_of nodes n).next ≡ missing) ⊎ Child st.code.header nodes n is_statement (node_of nodes n).next
   next-or_none = next_statement_lem st.code.header nodes n (node_of nodes n) (fit_at st.code.header (bare nodes) (omega (arith, st.code.few)) st.code.fit n st.inside) st.classed
@@ -160,7 +156,7 @@ module _ {nodes procedures variables constants : List ℕ} (w : World nodes proc
     few_nodes : w.h.nodes ≤ missing
     few_nodes = omega (arith, w.program.few)
 
-    pub means_at : (x : case.Node) → decoded_at nodes n ≡ Is x → Means w.h w.s n x
+    pub means_at : (x : case.Node) → decoded_at nodes n ≡ Ok x → Means w.h w.s n x
     means_at x e = means w.h w.s few_nodes all_fit n within_nodes x (ap (λ y. decoded_at y n) w.program.nodes_are ∙ e)
 
     pub stmts_at_lem : stmts_at w n ≡ list (stmt_at w n) (stmts_at w (node_of nodes n).next)
@@ -197,8 +193,8 @@ module _ {nodes procedures variables constants : List ℕ} (w : World nodes proc
   steps_at p d ρ {n} st = go (decoded_at nodes n) refl
     where
       go : (x : Decoded) → decoded_at nodes n ≡ x → running w p d ρ (stmt_at w n) ≡ step n (performed w p d ρ (stmt_at w n))
-      go (Is x) e = steps p d ρ n x (statement_case_lem st x e) (means_at st x e)
-      go (Refused number place) e = absurd (never_refused st number place e)
+      go (Ok x) e = steps p d ρ n x (statement_case_lem st x e) (means_at st x e)
+      go (Err r) e = absurd (never_refused st r e)
 
   module _ (p : ℕ) (d : Direction) (ρ : Env) {n : ℕ} (st : Statement nodes n) (cells trace : List ℕ) (run : Run) (trace' : List ℕ) (run' : Run)
       (begun : Does (step n done) cells trace run cells trace' run') where
@@ -209,10 +205,12 @@ module _ {nodes procedures variables constants : List ℕ} (w : World nodes proc
     begin-leads z c h = rw (steps_at p d ρ st) (step-leads n (performed w p d ρ (stmt_at w n)) begun z c h)
 
     -- What is owed of the rest is owed of the whole.
-    pub begin-on : run'.number ≡ 0 → (cells'' trace'' : List ℕ) (r : Rest) → Owes w p n d ρ (performed w p d ρ (stmt_at w n)) cells trace' run' cells'' trace'' r
-        → Owes w p n d ρ (running w p d ρ (stmt_at w n)) cells trace run cells'' trace'' r
-    begin-on z cells'' trace'' (Finished k) o = λ c h. let x = begin-leads z c h in rw x.same (o x.to x.holds)
-    begin-on z cells'' trace'' (Branch m k) o = (o.0, leads_on (begin-leads z) o.1)
-    begin-on z cells'' trace'' (Turns it k) o = (o.0, leads_on (begin-leads z) o.1)
-    begin-on z cells'' trace'' (left.Call b q a k) o = (o.0, leads_on (begin-leads z) o.1)
-    begin-on z cells'' trace'' (left.Block x count m k) o = (o.0, leads_on (begin-leads z) o.1)
+    pub begin-on : run'.number ≡ 0 → (cells'' trace'' : List ℕ) (steps entries : ℕ) (r : Result Rest Refusal)
+        → Owes w p n d ρ (performed w p d ρ (stmt_at w n)) cells trace' run' cells'' trace'' steps entries r
+        → Owes w p n d ρ (running w p d ρ (stmt_at w n)) cells trace run cells'' trace'' steps entries r
+    begin-on z cells'' trace'' steps entries (Err k) o = λ c h. let x = begin-leads z c h in rw x.same (o x.to x.holds)
+    begin-on z cells'' trace'' steps entries (Ok Finished) o = λ c h. let x = begin-leads z c h in rw x.same (o x.to x.holds)
+    begin-on z cells'' trace'' steps entries (Ok (Branch m)) o = (o.0, leads_on (begin-leads z) o.1)
+    begin-on z cells'' trace'' steps entries (Ok (Turns it)) o = (o.0, leads_on (begin-leads z) o.1)
+    begin-on z cells'' trace'' steps entries (Ok (left.Call b q a)) o = (o.0, leads_on (begin-leads z) o.1)
+    begin-on z cells'' trace'' steps entries (Ok (left.Block x count m)) o = (o.0, leads_on (begin-leads z) o.1)

@@ -6,14 +6,14 @@ use Rattle.std.proofs.Math.Decide.{dec_lt}
 use Rattle.rules.specs.Image.{procedure_of}
 use Rattle.rules.specs.Machine.{Slot, no_slot, Env}
 use Rattle.rules.specs.Run.{env_of}
-use Rattle.expressions.specs.Relations.{slot_of, Good, Apart, Rows}
+use Rattle.expressions.specs.Relations.{Table, slot_of, Good, Apart, Rows}
 use Rattle.executors.specs.World.{parameters_of, low_of, high_of, locals_of, World, Stands, Untouched, Kept}
 
-pub kept_both : {procedures : List ℕ} {p : ℕ} {a b c : List ℕ} → Kept procedures p a b → Kept procedures p b c → Kept procedures p a c
+pub kept_both : {procedures : List ℕ} {p : ℕ} {a b c : Table} → Kept procedures p a b → Kept procedures p b c → Kept procedures p a c
 kept_both k l = record { row = λ y u. l.row y u ∙ k.row y u }
 
 -- What a called procedure keeps, its caller keeps.
-pub kept_below : {procedures : List ℕ} {p q : ℕ} {a b : List ℕ} → q < p → Kept procedures q a b → Kept procedures p a b
+pub kept_below : {procedures : List ℕ} {p q : ℕ} {a b : Table} → q < p → Kept procedures q a b → Kept procedures p a b
 kept_below l k = record { row = λ y u. k.row y (λ r lr. u r (omega arith)) }
 
 -- Every name of a procedure is a parameter, which lives where its argument does, or a local, which is at home.
@@ -36,7 +36,7 @@ module _ {nodes procedures variables constants : List ℕ} (w : World nodes proc
       dite (dec_lt r q) (λ o. omega (arith, w.apart r q o (omega arith), w.parameters r (omega arith)))
       (λ no. dite (dec_lt q r) (λ o. omega (arith, w.apart q r o (omega arith))) (λ no'. let same : r ≡ q = omega arith in omega (arith, ap (locals_of procedures) same)))
 
-  module _ {p : ℕ} {slots : List ℕ} {ρ : Env} (st : Stands w p slots ρ) (slots' : List ℕ) where
+  module _ {p : ℕ} {slots : Table} {ρ : Env} (st : Stands w p slots ρ) (slots' : Table) where
     -- The names live where they did after rows that are kept.
     pub stands_on : Kept procedures p slots slots' → length slots' ≡ length slots → Stands w p slots' ρ
     stands_on k e = record {

@@ -1,13 +1,14 @@
 -- The commands of the cycle's members, and what is owed of a statement that has begun.
-use Rattle.std.specs.Prelude.{ℕ, ◌+◌, ◌-◌, ◌*◌, ◌<◌, ◌≡◌, List, eqb}
+use Rattle.std.specs.Prelude.{ℕ, ◌+◌, ◌-◌, ◌*◌, ◌<◌, ◌≡◌, List, eqb, Result, Ok, Err}
 use Rattle.rules.specs.Words.{Direction, turned}
 use Rattle.rules.specs.Tree.{Expr, LValue, Stmt, empty, update, swap, conditional_swap, branch, loop, call, block, nothing, list, range, reading_at}
 use Rattle.rules.specs.Machine.{Env, Command, Calls, done, eval, arguments, reading, both, choose, counted, block_end, first_bound, exec}
 use Rattle.rules.specs.Run.{calls_below}
-use Rattle.expressions.specs.Relations.{Chained, Does, direction_of}
+use Rattle.expressions.specs.Relations.{Run, Chained, Does, direction_of}
+use Rattle.expressions.specs.Standing.{ran}
+use Rattle.records.specs.declared.refusal.Refusal.{Refusal}
 use Rattle.expressions.specs.Names.{WithinXs, Fitting, Within}
 use Rattle.expressions.specs.Commands.{updating, exchanging, exchanging_if}
-use Rattle.expressions.specs.declared.Run.{Run}
 use Rattle.executors.specs.World.{Statement, Chain, parameters_of, low_of, high_of, World, Leads}
 use Rattle.executors.specs.declared.Counting.{Counting}
 use Rattle.executors.specs.declared.Rest.{Rest}
@@ -73,22 +74,28 @@ module _ {nodes procedures variables constants : List ℕ} (w : World nodes proc
       abbrev pub closing : ℕ → ℕ → ℕ → ℕ → Command
       closing n x count m = both (running (stmts_at m)) (block_end n ρ (range x count))
 
-    -- What is owed of the command f of node n, of which this rest is left: either it is done, or what the rest does from here it does.
-    abbrev pub Owes : ℕ → Direction → Env → Command → List ℕ → List ℕ → Run → List ℕ → List ℕ → Rest → Type 0
-    Owes n d ρ f cells trace run cells' trace' (Finished r) = Does f cells trace run cells' trace' r
-    Owes n d ρ f cells trace run cells' trace' (Branch m r) = Fine (stmt_at m) × Leads f cells trace run (running d ρ (stmt_at m)) cells' trace' r
-    Owes n d ρ f cells trace run cells' trace' (Turns k r) = Fine (stmt_at k.body) × Leads f cells trace run (looping d ρ k) cells' trace' r
-    Owes n d ρ f cells trace run cells' trace' (Call b q a r) = FineCall q a × Leads f cells trace run (calling (direction_of b) ρ q a) cells' trace' r
-    Owes n d ρ f cells trace run cells' trace' (Block x count m r) =
-        (WithinXs (low_of procedures p) (high_of procedures p) (range x count) × Fine (stmts_at m)) × Leads f cells trace run (closing d ρ n x count m) cells' trace' r
+    -- What is owed of the command f of node n: it is refused, or done, or what is left does from here what it does.
+    abbrev pub Owes : ℕ → Direction → Env → Command → List ℕ → List ℕ → Run → List ℕ → List ℕ → ℕ → ℕ → Result Rest Refusal → Type 0
+    Owes n d ρ f cells trace run cells' trace' left entries (Err r) = Does f cells trace run cells' trace' (ran (Err r) left entries)
+    Owes n d ρ f cells trace run cells' trace' left entries (Ok Finished) = Does f cells trace run cells' trace' (ran (Ok tt) left entries)
+    Owes n d ρ f cells trace run cells' trace' left entries (Ok (Branch m)) =
+        Fine (stmt_at m) × Leads f cells trace run (running d ρ (stmt_at m)) cells' trace' (ran (Ok tt) left entries)
+    Owes n d ρ f cells trace run cells' trace' left entries (Ok (Turns k)) =
+        Fine (stmt_at k.body) × Leads f cells trace run (looping d ρ k) cells' trace' (ran (Ok tt) left entries)
+    Owes n d ρ f cells trace run cells' trace' left entries (Ok (Call b q a)) =
+        FineCall q a × Leads f cells trace run (calling (direction_of b) ρ q a) cells' trace' (ran (Ok tt) left entries)
+    Owes n d ρ f cells trace run cells' trace' left entries (Ok (Block x count m)) =
+        (WithinXs (low_of procedures p) (high_of procedures p) (range x count) × Fine (stmts_at m))
+        × Leads f cells trace run (closing d ρ n x count m) cells' trace' (ran (Ok tt) left entries)
 
 -- What is left refers to larger nodes.
-abbrev pub Sound : List ℕ → ℕ → Rest → Type 0
-Sound nodes n (Finished r) = Unit {0}
-Sound nodes n (Branch m r) = Statement nodes m × (n < m)
-Sound nodes n (Turns k r) = Statement nodes k.body × ((n < k.body) × (k.node ≡ n))
-Sound nodes n (Call b q a r) = Chained nodes a
-Sound nodes n (Block x count m r) = Chain nodes m × ((n < m) × (x + count < 65536))
+abbrev pub Sound : List ℕ → ℕ → Result Rest Refusal → Type 0
+Sound nodes n (Err r) = Unit {0}
+Sound nodes n (Ok Finished) = Unit {0}
+Sound nodes n (Ok (Branch m)) = Statement nodes m × (n < m)
+Sound nodes n (Ok (Turns k)) = Statement nodes k.body × ((n < k.body) × (k.node ≡ n))
+Sound nodes n (Ok (Call b q a)) = Chained nodes a
+Sound nodes n (Ok (Block x count m)) = Chain nodes m × ((n < m) × (x + count < 65536))
 
 -- What falls with each call: the procedure's number, then what lies behind the node.
 abbrev pub statement_rank : ℕ → ℕ → ℕ

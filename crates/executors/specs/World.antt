@@ -6,9 +6,8 @@ use Rattle.rules.specs.Tree.{body_of}
 use Rattle.rules.specs.Machine.{Env, State, Out, Command}
 use Rattle.records.specs.Cases.{Refers}
 use Rattle.records.specs.declared.Node as case
-use Rattle.expressions.specs.Relations.{slot_of, Good, Agree, Program, Holds, Matches}
+use Rattle.expressions.specs.Relations.{Table, Run, slot_of, Good, Agree, Program, Holds, Matches}
 use Rattle.expressions.specs.Names.{Within}
-use Rattle.expressions.specs.declared.Run.{Run}
 
 -- ---- what ending rests on: references go to larger node numbers, and calls to smaller procedures
 
@@ -71,7 +70,7 @@ pub record World (nodes procedures variables constants : List ℕ) : Type 0 wher
   pub good : (q y : ℕ) → q < h.procedures → locals_of procedures q ≤ y → y < high_of procedures q → Good (homes y)
 
 -- The names of procedure p live where ρ says, and the locals of every procedure below it are at home.
-pub record Stands {nodes procedures variables constants : List ℕ} (w : World nodes procedures variables constants) (p : ℕ) (slots : List ℕ) (ρ : Env) : Type 0 where
+pub record Stands {nodes procedures variables constants : List ℕ} (w : World nodes procedures variables constants) (p : ℕ) (slots : Table) (ρ : Env) : Type 0 where
   pub mine : p < w.h.procedures
   pub agree : Agree slots ρ (low_of procedures p) (high_of procedures p)
   pub home : (q y : ℕ) → q < p → locals_of procedures q ≤ y → y < high_of procedures q → slot_of slots y ≡ w.homes y
@@ -81,16 +80,16 @@ abbrev pub Untouched : List ℕ → ℕ → ℕ → Type 0
 Untouched procedures p y = (q : ℕ) → q < p → low_of procedures q ≤ y → y < locals_of procedures q → ⊥
 
 -- A statement of procedure p writes no rows but those of the parameters of procedures below it.
-pub record Kept (procedures : List ℕ) (p : ℕ) (slots slots' : List ℕ) : Type 0 where
+pub record Kept (procedures : List ℕ) (p : ℕ) (slots slots' : Table) : Type 0 where
   pub row : (y : ℕ) → Untouched procedures p y → slot_of slots' y ≡ slot_of slots y
 
 -- A run has come to this end, and has kept its rows.
-pub record Ended (procedures : List ℕ) (p : ℕ) (o : Out) (slots cells' slots' trace' : List ℕ) (run' : Run) : Type 0 where
+pub record Ended (procedures : List ℕ) (p : ℕ) (o : Out) (slots : Table) (cells' : List ℕ) (slots' : Table) (trace' : List ℕ) (run' : Run) : Type 0 where
   pub is : Matches o cells' trace' run'
   pub kept : Kept procedures p slots slots'
 
 -- The code does what the command of procedure p does, from every state that its numbers stand for.
-abbrev pub Ran : List ℕ → ℕ → Command → List ℕ → List ℕ → List ℕ → Run → List ℕ → List ℕ → List ℕ → Run → Type 0
+abbrev pub Ran : List ℕ → ℕ → Command → List ℕ → Table → List ℕ → Run → List ℕ → Table → List ℕ → Run → Type 0
 Ran procedures p f cells slots trace run cells' slots' trace' run' = (c : State) → Holds c cells trace run → Ended procedures p (f c) slots cells' slots' trace' run'
 
 -- What f does from the state c is what g does from a state that the numbers now stand for.

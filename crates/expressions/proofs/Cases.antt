@@ -10,43 +10,42 @@ use Rattle.rules.specs.Image as rules
 use Rattle.rules.specs.Image.{is_expression, node_of}
 use Rattle.records.specs.declared.Node.{Node}
 use Rattle.records.specs.declared.Node.TheVariants.{Empty, Update, Swap, ConditionalSwap, If, For, Call, Uncall, Block, Constant, Value, Size, Binary, Not, Argument}
-use Rattle.records.specs.declared.Decoded.{Decoded}
-use Rattle.records.specs.declared.Decoded.TheVariants.{Is, Refused}
+use Rattle.std.specs.Prelude.{Ok, Err}
 use Rattle.records.specs.contracts.Node.{the_type}
-use Rattle.records.specs.Decode.{lvalue_by, expression_by, decoded_by, decoded_at, with_target}
+use Rattle.records.specs.Decode.{Decoded, lvalue_by, expression_by, decoded_by, decoded_at, with_target}
 use Rattle.records.specs.Truth.{chosen}
 use Rattle.records.specs.Expressions.{decoded_expression}
 use Rattle.records.specs.Cases.{node_of_lvalue}
 use Rattle.expressions.specs.Relations.{Readable}
 
 abbrev pub Expressed : ℕ → Decoded → Type 0
-Expressed n (Is Empty) = ⊥
-Expressed n (Is (Update l v o)) = ⊥
-Expressed n (Is (Swap l m)) = ⊥
-Expressed n (Is (ConditionalSwap l m e)) = ⊥
-Expressed n (Is (If e a b)) = ⊥
-Expressed n (Is (For x a b s)) = ⊥
-Expressed n (Is (Call p a)) = ⊥
-Expressed n (Is (Uncall p a)) = ⊥
-Expressed n (Is (Block x k a)) = ⊥
-Expressed n (Is (Constant k)) = Unit {0}
-Expressed n (Is (Value l)) = node_of_lvalue l ≡ n
-Expressed n (Is (Size x)) = Unit {0}
-Expressed n (Is (Binary o a b)) = Unit {0}
-Expressed n (Is (Not a)) = Unit {0}
-Expressed n (Is (Argument l m)) = ⊥
-Expressed n (Refused k m) = Unit {0}
+Expressed n (Ok Empty) = ⊥
+Expressed n (Ok (Update l v o)) = ⊥
+Expressed n (Ok (Swap l m)) = ⊥
+Expressed n (Ok (ConditionalSwap l m e)) = ⊥
+Expressed n (Ok (If e a b)) = ⊥
+Expressed n (Ok (For x a b s)) = ⊥
+Expressed n (Ok (Call p a)) = ⊥
+Expressed n (Ok (Uncall p a)) = ⊥
+Expressed n (Ok (Block x k a)) = ⊥
+Expressed n (Ok (Constant k)) = Unit {0}
+Expressed n (Ok (Value l)) = node_of_lvalue l ≡ n
+Expressed n (Ok (Size x)) = Unit {0}
+Expressed n (Ok (Binary o a b)) = Unit {0}
+Expressed n (Ok (Not a)) = Unit {0}
+Expressed n (Ok (Argument l m)) = ⊥
+Expressed n (Err r) = Unit {0}
 
 module _ (n : ℕ) (r : rules.Node) where
   abbrev here : Decoded → Type 0
   here = Expressed n
 
-  lvalue-expressed : here (with_target (lvalue_by n r) n (λ l. Is (Value l)))
+  lvalue-expressed : here (with_target (lvalue_by n r) n (λ l. Ok (Value l)))
   unfolding lvalue_by
   lvalue-expressed =
-      chosen (λ t. here (with_target t n (λ l. Is (Value l)))) (eqb r.kind 21) (λ e. refl)
-      (λ e. chosen (λ t. here (with_target t n (λ l. Is (Value l)))) (eqb r.kind 22) (λ e. refl)
-      (λ e. chosen (λ t. here (with_target t n (λ l. Is (Value l)))) (eqb r.kind 23) (λ e. refl) (λ e. tt)))
+      chosen (λ t. here (with_target t n (λ l. Ok (Value l)))) (eqb r.kind 21) (λ e. refl)
+      (λ e. chosen (λ t. here (with_target t n (λ l. Ok (Value l)))) (eqb r.kind 22) (λ e. refl)
+      (λ e. chosen (λ t. here (with_target t n (λ l. Ok (Value l)))) (eqb r.kind 23) (λ e. refl) (λ e. tt)))
 
   expression-expressed : here (expression_by n r)
   unfolding expression_by
@@ -63,7 +62,7 @@ module _ (n : ℕ) (r : rules.Node) where
 abbrev pub others : List ℕ
 others = 0 ∷ 1 ∷ 2 ∷ 3 ∷ 4 ∷ 5 ∷ 6 ∷ 7 ∷ 8 ∷ 14 ∷ []
 
-no_other : (n : ℕ) (x : Node) → Expressed n (Is x) → OneOf others (tag_of the_type x) → ⊥
+no_other : (n : ℕ) (x : Node) → Expressed n (Ok x) → OneOf others (tag_of the_type x) → ⊥
 no_other n Empty e o = e
 no_other n (Update l v u) e o = e
 no_other n (Swap l m) e o = e
@@ -80,8 +79,8 @@ no_other n (Binary b l r) e o = miss others 12 tt o
 no_other n (Not a) e o = miss others 13 tt o
 no_other n (Argument l m) e o = e
 
-module _ {nodes : List ℕ} {n : ℕ} (r : Readable is_expression nodes n) (x : Node) (e : decoded_at nodes n ≡ Is x) where
-  pub case_expressed : Expressed n (Is x)
+module _ {nodes : List ℕ} {n : ℕ} (r : Readable is_expression nodes n) (x : Node) (e : decoded_at nodes n ≡ Ok x) where
+  pub case_expressed : Expressed n (Ok x)
   case_expressed = rw e at (expressed n (node_of nodes n) nodes r.classed)
 
   pub case_no_other : OneOf others (tag_of the_type x) → ⊥

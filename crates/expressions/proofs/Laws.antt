@@ -2,7 +2,7 @@
 use Prim.Native.Nat.{ℕ, suc, ◌+◌, ◌-◌, ◌^◌, ◌≤◌, ◌<◌}
 use mathlib.Core.Path.{◌≡◌, refl, sym, ap, ◌∙◌, subst⁻¹}
 use mathlib.Core.List.{List, [], ◌++◌, append-nil, append_assoc}
-use mathlib.Core.Bool.{Bool, true, false, cond, ◌&&◌}
+use mathlib.Core.Bool.{Bool, true, false, cond, not, beq, ◌&&◌, ◌||◌}
 use native.Mathlib.Nat.{mod-eq_of_lt}
 use native.Mathlib.Numerals.{add-one}
 use native.Mathlib.Omega.{arith}
@@ -13,10 +13,8 @@ use Rattle.rules.specs.Words.{Binary, operate, divides, exchanged}
 use Rattle.rules.specs.Image.{Variable, is_constant}
 use Rattle.rules.specs.Tree.{constant, variable, range}
 use Rattle.rules.specs.Machine.{Slot, Env, State, done, stop, found, fault, cell_event, inside, load, divided, eval, noted, holding, step_from, step, change, exchange, choose, zeros, cleared, block_end}
-use Rattle.expressions.specs.declared.Run.{Run}
-use Rattle.expressions.specs.declared.Valued.{Valued}
 use Rattle.expressions.specs.Commands.{passing}
-use Rattle.expressions.specs.Relations.{Traced, Emitted, answer, finding, failing, Gets, Holds, Matches, goes_on, is_stopped, Does}
+use Rattle.expressions.specs.Relations.{Run, Valued, Traced, Emitted, answer, finding, failing, Gets, Holds, Matches, goes_on, is_stopped, Does}
 
 -- What is found or refused with no event leaves the trace.
 pub with_none : {trace : List ℕ} {entries : ℕ} (events : List ℕ) → Traced trace entries events → Traced trace entries (events ++ [])
@@ -59,14 +57,14 @@ module _ (n : ℕ) (o : Binary) (v w : ℕ) {trace : List ℕ} {entries : ℕ} w
 
 -- A variable's value, whatever its record is.
 module _ (ρ : Env) (σ : List ℕ) (r : Variable) (k n x : ℕ) {trace : List ℕ} {entries : ℕ} where
-  pub named-constant : (v : ℕ) → r.kind ≡ 2 → v ≡ k → v < 2 ^ 64 → Gets (eval ρ σ (cond (is_constant r) (constant n x k) (variable n x))) trace entries trace (answer v 0 0 entries)
+  pub named-constant : (v : ℕ) → is_constant r ≡ true → v ≡ k → v < 2 ^ 64 → Gets (eval ρ σ (cond (is_constant r) (constant n x k) (variable n x))) trace entries trace (answer v 0 0 entries)
   unfolding eval
-  named-constant v e q small = rw (eq-eqb _ _ e, ← q, mod-eq_of_lt small) (found_plain v)
+  named-constant v e q small = rw (e, ← q, mod-eq_of_lt small) (found_plain v)
 
-  pub named-cell : (r.kind ≡ 2 → ⊥) → {trace' : List ℕ} {v : Valued} → Gets (load σ (ρ x).base) trace entries trace' v
+  pub named-cell : is_constant r ≡ false → {trace' : List ℕ} {v : Valued} → Gets (load σ (ρ x).base) trace entries trace' v
       → Gets (eval ρ σ (cond (is_constant r) (constant n x k) (variable n x))) trace entries trace' v
   unfolding eval
-  named-cell e g = rw (ne_eqb _ _ e) g
+  named-cell e g = rw e g
 
 -- ---- commands
 
@@ -74,11 +72,11 @@ abbrev at : ℕ → ℕ → ℕ → ℕ → Run
 at number place left entries = record { number = number; place = place; left = left; entries = entries }
 
 module _ (n : ℕ) (σ : List ℕ) (c : State) {trace : List ℕ} {run : Run} (h : Holds c σ trace run) where
-  pub step-out : run.left ≡ 0 → Matches (step n done c) σ trace (at 23 n 0 run.entries)
+  pub step-out : run.left ≡ 0 → Matches (step n done c) σ trace (at 23 n run.left run.entries)
   unfolding step step_from
   step-out e =
-      subst⁻¹ (λ left. Matches (step_from left n done c) σ trace (at 23 n 0 run.entries)) (h.left_is ∙ e)
-      (is_stopped (record { number_is = refl; refusal = lit< tt; place_is = refl; left_is = h.left_is ∙ e; traced = h.traced }))
+      subst⁻¹ (λ left. Matches (step_from left n done c) σ trace (at 23 n run.left run.entries)) (h.left_is ∙ e)
+      (is_stopped (record { number_is = refl; refusal = lit< tt; place_is = refl; left_is = h.left_is; traced = h.traced }))
 
   pub step-taken : (run.left ≡ 0 → ⊥) → {trace' : List ℕ} {entries' : ℕ} → Emitted n trace run.entries trace' entries'
       → Matches (step n done c) σ trace' (at 0 0 (run.left - 1) entries')
@@ -128,6 +126,19 @@ module _ (σ : List ℕ) (i end : ℕ) (l : i < end) where
 pub zeros-none : (σ : List ℕ) (i end : ℕ) → end ≤ i → zeros σ i (end - i) ≡ true
 unfolding zeros
 zeros-none σ i end l = let none : end - i ≡ 0 = omega arith in rw none
+
+-- Of the other secrecy, or all cells 0.
+pub passes_other : (h s z : Bool) → not (beq h s) ≡ true → not (beq h s) ≡ (cond s (not h) h || z)
+passes_other true true z e = absurd (cc)
+passes_other true false z e = refl
+passes_other false true z e = refl
+passes_other false false z e = absurd (cc)
+
+pub passes_own : (h s z : Bool) → not (beq h s) ≡ false → z ≡ (cond s (not h) h || z)
+passes_own true true z e = refl
+passes_own true false z e = absurd (cc)
+passes_own false true z e = absurd (cc)
+passes_own false false z e = refl
 
 module _ (secrecy : Bool) (ρ : Env) (σ : List ℕ) (x end : ℕ) (l : x < end) where
   pub cleared_more : passing secrecy (ρ x) σ ≡ true → cleared secrecy ρ (range x (end - x)) σ ≡ cleared secrecy ρ (range (x + 1) (end - (x + 1))) σ

@@ -1,5 +1,5 @@
 -- One law for each way out of `arguments`: nothing is left, an address is refused, or one row is written and the rest lent behind it.
-use Prim.Native.Nat.{ℕ, zero, suc, ◌+◌, ◌*◌, ◌≤◌, ◌<◌}
+use Prim.Native.Nat.{ℕ, zero, suc, ◌+◌, ◌≤◌, ◌<◌}
 use mathlib.Core.Path.{◌≡◌, refl, ap, ◌∙◌}
 use mathlib.Core.List.{List, [], ◌∷◌, ◌++◌, append-nil}
 use mathlib.Core.Logic.{inl, inr, ⊎_elim}
@@ -11,9 +11,11 @@ use lib.ListN.{length}
 use Rattle.rules.specs.Tree.{LValue, whole, entry}
 use Rattle.rules.specs.Machine.{Slot, Env, Found, found, fault, after, and_then, inside, eval, address, lent, arguments}
 use Rattle.records.specs.Truth.{chosen}
-use Rattle.expressions.specs.declared.Run.{Run}
-use Rattle.expressions.specs.declared.Valued.{Valued}
-use Rattle.expressions.specs.Relations.{Traced, slot_of, Good, Agree, Answers, finding, failing, Got, Gets, After, Rows, Apart, Lends}
+use Rattle.std.specs.Prelude.{Result, Ok, Err, ⊤}
+use Rattle.records.specs.declared.refusal.Refusal.{Refusal}
+use Rattle.expressions.specs.Results.{some_number}
+use Rattle.expressions.specs.Standing.{valued, ran}
+use Rattle.expressions.specs.Relations.{Table, Valued, answer, Traced, slot_of, Good, Agree, Answers, finding, failing, Got, Gets, Rows, Apart, Lends}
 use Rattle.expressions.specs.Names.{In, WithinL, WithinLs}
 use Rattle.expressions.specs.Laws.{then_on, then_refused}
 use Rattle.expressions.specs.Agreement.{address_same, lent_same}
@@ -46,9 +48,9 @@ module _ (ρ : Env) (lo hi : ℕ) (good : (y : ℕ) → lo ≤ y → y < hi → 
   address-small σ (whole n x) w = omega (arith, (good x w.low w.high).placed)
   address-small σ (entry n u x e) w = small_then (eval ρ σ e) (inside n (ρ x)) (inside-small n x w.0)
 
-small_value : {F : Found ℕ} {events trace : List ℕ} (r : Valued) → Small F → Got F events trace r → r.number ≡ 0 → r.value ≤ 4096
-small_value r s (finding f) z = rw f.is s
-small_value r s (failing f) z = absurd (omega (arith, z, f.number_is, f.refusal))
+small_value : {F : Found ℕ} {events trace : List ℕ} {i entries : ℕ} → Small F → Got F events trace (answer i 0 0 entries) → i ≤ 4096
+small_value s (finding f) = rw f.is s
+small_value s (failing f) = absurd (omega (arith, f.number_is, f.refusal))
 
 -- What follows with no event of its own keeps the answer.
 none_after : (t events : List ℕ) {trace : List ℕ} {entries : ℕ} → Traced trace entries (events ++ t) → Traced trace entries (events ++ (t ++ []))
@@ -60,17 +62,17 @@ unfolding and_then after
 answers_map ok' f (finding {v} {t} {events} r) g = finding (record { going = r.going; is = g v r.is; traced = none_after t events r.traced })
 answers_map ok' f (failing r) g = failing r
 
-rows_cons : (slots : List ℕ) (y : ℕ) (x : Slot) (xs : List Slot) → slot_of slots y ≡ x → Rows slots (y + 1) xs → Rows slots y (x ∷ xs)
+rows_cons : (slots : Table) (y : ℕ) (x : Slot) (xs : List Slot) → slot_of slots y ≡ x → Rows slots (y + 1) xs → Rows slots y (x ∷ xs)
 rows_cons slots y x xs e r zero l = rw (add-zero y) e
 rows_cons slots y x xs e r (suc j) l = let next : y + suc j ≡ y + 1 + j = omega arith in rw next (r j (omega arith))
 
 -- Row y is written, then those behind it.
-apart_more : (slots slots₁ slots₂ : List ℕ) (y count : ℕ) → Apart slots slots₁ y 1 → Apart slots₁ slots₂ (y + 1) count → Apart slots slots₂ y (suc count)
+apart_more : (slots slots₁ slots₂ : Table) (y count : ℕ) → Apart slots slots₁ y 1 → Apart slots₁ slots₂ (y + 1) count → Apart slots slots₂ y (suc count)
 apart_more slots slots₁ slots₂ y count a b x out =
     b x (⊎_elim (λ l. inl (omega arith)) (λ l. inr (omega arith)) out) ∙ a x (⊎_elim (λ l. inl l) (λ l. inr (omega arith)) out)
 
 module _ (ρ : Env) (σ : List ℕ) (y : ℕ) {ls₀ : List LValue} where
-  pub lends_none : ls₀ ≡ [] → (slots : List ℕ) {trace : List ℕ} {entries : ℕ} (left : ℕ)
+  pub lends_none : ls₀ ≡ [] → (slots : Table) {trace : List ℕ} {entries : ℕ} (left : ℕ)
       → Apart slots slots y (length ls₀)
       × ((events : List ℕ) → Traced trace entries events → Lends (arguments ρ σ ls₀) y events slots trace (record { number = 0; place = 0; left = left; entries = entries }))
   unfolding arguments
@@ -79,24 +81,23 @@ module _ (ρ : Env) (σ : List ℕ) (y : ℕ) {ls₀ : List LValue} where
     λ events t. rw e (finding {v = []} (record { going = refl; is = λ j l. absurd (omega arith); traced = with_none events t })),
   )
 
-  module _ (l : LValue) (ls : List LValue) (e : ls₀ ≡ l ∷ ls) (slots : List ℕ) (lo hi : ℕ) (agree : Agree slots ρ lo hi)
-      (within : WithinLs lo hi ls₀) (below : y + length ls₀ ≤ lo) {trace trace₁ : List ℕ} {entries : ℕ} (v : Valued)
-      (g : Gets (address (slot_of slots) σ l) trace entries trace₁ v) where
+  module _ (l : LValue) (ls : List LValue) (e : ls₀ ≡ l ∷ ls) (slots : Table) (lo hi : ℕ) (agree : Agree slots ρ lo hi)
+      (within : WithinLs lo hi ls₀) (below : y + length ls₀ ≤ lo) where
     split : WithinL lo hi l × WithinLs lo hi ls
     unfolding WithinLs
     split = rw e at within
 
-    got : Gets (address ρ σ l) trace entries trace₁ v
-    got = rw (address_same (slot_of slots) ρ lo hi agree.rows σ l split.0) at g
+    agrees : {trace trace₁ : List ℕ} {entries : ℕ} {v : Valued} → Gets (address (slot_of slots) σ l) trace entries trace₁ v → Gets (address ρ σ l) trace entries trace₁ v
+    agrees g = rw (address_same (slot_of slots) ρ lo hi agree.rows σ l split.0) at g
 
-    pub lends_refused : (v.number ≡ 0 → ⊥) → (run r : Run) → After run v.number v.place v.entries r
-        → Apart slots slots y (length ls₀) × ((events : List ℕ) → Traced trace entries events → Lends (arguments ρ σ ls₀) y events slots trace₁ r)
+    pub lends_refused : {trace trace₁ : List ℕ} {entries entries₁ : ℕ} (r : Refusal) → Gets (address (slot_of slots) σ l) trace entries trace₁ (valued (Err r) entries₁)
+        → Apart slots slots y (length ls₀) × ((events : List ℕ) → Traced trace entries events → Lends (arguments ρ σ ls₀) y events slots trace₁ (ran (Err r) 0 entries₁))
     unfolding arguments
-    lends_refused z run r a =
-        ((λ x out. refl), λ events t. rw (e, a.number_is, a.place_is, a.entries_are) (then_refused _ _ (got events t) z))
+    lends_refused r g = ((λ x out. refl), λ events t. rw e (then_refused _ _ (agrees g events t) (some_number r)))
 
-    module _ (z : v.number ≡ 0) (slots₁ : List ℕ) (long : length slots₁ ≡ length slots) (lent-apart : Apart slots slots₁ y 1)
-        (row : v.value < 65536 → y * 4 + 3 < length slots → slot_of slots₁ y ≡ lent (slot_of slots) l v.value) where
+    module _ {trace trace₁ : List ℕ} {entries entries₁ : ℕ} (i : ℕ) (g : Gets (address (slot_of slots) σ l) trace entries trace₁ (valued (Ok i) entries₁))
+        (slots₁ : Table) (long : length slots₁ ≡ length slots) (lent-apart : Apart slots slots₁ y 1)
+        (row : i < 65536 → y < length slots → slot_of slots₁ y ≡ lent (slot_of slots) l i) where
       rest_below : y + 1 + length ls ≤ lo
       rest_below = omega (arith, ap length e, below)
 
@@ -107,23 +108,23 @@ module _ (ρ : Env) (σ : List ℕ) (y : ℕ) {ls₀ : List LValue} where
         room = rw long agree.room;
       }
 
-      in_row : {events : List ℕ} → Traced trace entries events → slot_of slots₁ y ≡ lent ρ l v.value
+      in_row : {events : List ℕ} → Traced trace entries events → slot_of slots₁ y ≡ lent ρ l i
       in_row {events} t =
-          let small : v.value ≤ 4096 = small_value v (address-small ρ lo hi agree.good σ l split.0) (got events t) z in
-          row (omega arith) (omega (arith, rest_below, agree.room)) ∙ lent_same (slot_of slots) ρ lo hi agree.rows σ l split.0 v.value
+          let small : i ≤ 4096 = small_value (address-small ρ lo hi agree.good σ l split.0) (agrees g events t) in
+          row (omega arith) (omega (arith, rest_below, agree.room)) ∙ lent_same (slot_of slots) ρ lo hi agree.rows σ l split.0 i
 
-      pub lends_on : (run₁ r : Run) (slots₂ : List ℕ) {trace₂ : List ℕ} → run₁.entries ≡ v.entries
+      pub lends_on : (r : Result ⊤ Refusal) (slots₂ : Table) {trace₂ : List ℕ} (entries₂ : ℕ)
           → (Agree slots₁ ρ lo hi → WithinLs lo hi ls → y + 1 + length ls ≤ lo
           → Apart slots₁ slots₂ (y + 1) (length ls)
-          × ((events : List ℕ) → Traced trace₁ run₁.entries events → Lends (arguments ρ σ ls) (y + 1) events slots₂ trace₂ r))
-          → Apart slots slots₂ y (length ls₀) × ((events : List ℕ) → Traced trace entries events → Lends (arguments ρ σ ls₀) y events slots₂ trace₂ r)
+          × ((events : List ℕ) → Traced trace₁ entries₁ events → Lends (arguments ρ σ ls) (y + 1) events slots₂ trace₂ (ran r 0 entries₂)))
+          → Apart slots slots₂ y (length ls₀) × ((events : List ℕ) → Traced trace entries events → Lends (arguments ρ σ ls₀) y events slots₂ trace₂ (ran r 0 entries₂))
       unfolding arguments
-      lends_on run₁ r slots₂ entries_are rest =
+      lends_on r slots₂ entries₂ rest =
           let q = rest kept split.1 rest_below in
           rw e (
             apart_more slots slots₁ slots₂ y (length ls) lent-apart q.0,
             λ events t.
-                then_on (λ xs. Rows slots₂ y xs) _ (got events t) z
-                (λ i is events₁ t₁. answers_map (λ xs. Rows slots₂ y xs) (λ xs. lent ρ l i ∷ xs) (q.1 events₁ (rw entries_are t₁))
-                (λ xs rows. rows_cons slots₂ y (lent ρ l i) xs (q.0 y (inl (omega arith)) ∙ in_row t ∙ ap (λ j. lent ρ l j) is) rows)),
+                then_on (λ xs. Rows slots₂ y xs) _ (agrees g events t) refl
+                (λ j is events₁ t₁. answers_map (λ xs. Rows slots₂ y xs) (λ xs. lent ρ l j ∷ xs) (q.1 events₁ t₁)
+                (λ xs rows. rows_cons slots₂ y (lent ρ l j) xs (q.0 y (inl (omega arith)) ∙ in_row t ∙ ap (λ k. lent ρ l k) is) rows)),
           )

@@ -1,6 +1,6 @@
 pub mod Laws
 pub mod Cases
-pub mod Values
+pub mod Nodes
 pub mod Targets
 pub mod Rows
 pub mod Lent

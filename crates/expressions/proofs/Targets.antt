@@ -1,10 +1,10 @@
 -- The laws of L-values: the cell of each case, and its root.
 use Prim.Native.Nat.{ℕ}
-use mathlib.Core.Path.{◌≡◌, refl, sym, ◌∙◌, subst⁻¹}
+use mathlib.Core.Path.{◌≡◌, refl, subst⁻¹}
 use mathlib.Core.Bool.{Bool, true, false}
 use mathlib.Core.List.{List}
-use native.Mathlib.Omega.{arith}
-use Rattle.rules.specs.Image.{missing, Header, Parts, is_expression}
+use mathlib.Core.Logic.{◌⊎◌, ⊎_elim}
+use Rattle.rules.specs.Image.{Header, Parts, is_expression}
 use Rattle.rules.specs.Tree as tree
 use Rattle.rules.specs.Tree.{root, reading_at}
 use Rattle.rules.specs.Words.{Direction, Update, changed_by, going}
@@ -13,13 +13,11 @@ use Rattle.records.specs.declared.LValue.{LValue}
 use Rattle.records.specs.declared.LValue.TheVariants.{Variable, Element, Unsafe}
 use Rattle.records.specs.Cases.{place_of, value_of, node_of_lvalue, Named}
 use Rattle.records.specs.Fits.{Child}
-use Rattle.expressions.specs.declared.Run.{Run}
-use Rattle.expressions.specs.declared.Valued.{Valued}
-use Rattle.expressions.specs.Relations.{Readable, Indexed, root_of, index_of, Numbered, Good, answer, Gets, Does}
+use Rattle.expressions.specs.Relations.{Run, Valued, Readable, Indexed, root_of, Good, answer, Gets, Does}
 use Rattle.expressions.proofs.Laws.{found_plain}
 
 pub root-place : (h : Header) (s : Parts) (l : LValue) → root (place_of h s l) ≡ root_of l
-unfolding root root_of
+unfolding root
 root-place h s (Variable n x) = refl
 root-place h s (Element n x i) = refl
 root-place h s (Unsafe n x i) = refl
@@ -35,14 +33,17 @@ pub record Entry (l : LValue) (n x i : ℕ) : Type 0 where
   pub child : (h : Header) (s : Parts) → Named h s l → Child h s.nodes n is_expression i
 
 pub element-entry : (n x i : ℕ) {l : LValue} → l ≡ Element n x i → Entry l n x i
-unfolding root_of Indexed
+unfolding Indexed
 element-entry n x i e =
     rw e (record { unsafe = false; place = λ h s. refl; value = λ h s. refl; here = refl; root = refl; index = λ nodes r. r; child = λ h s q. q.1 })
 
 pub unsafe_entry : (n x i : ℕ) {l : LValue} → l ≡ Unsafe n x i → Entry l n x i
-unfolding root_of Indexed
+unfolding Indexed
 unsafe_entry n x i e =
     rw e (record { unsafe = true; place = λ h s. refl; value = λ h s. refl; here = refl; root = refl; index = λ nodes r. r; child = λ h s q. q.1 })
+
+pub entry_of : (n x i : ℕ) {l : LValue} → (l ≡ Element n x i) ⊎ (l ≡ Unsafe n x i) → Entry l n x i
+entry_of n x i = ⊎_elim (element-entry n x i) (unsafe_entry n x i)
 
 -- The cell of each case.
 module _ (ρ : Env) (σ : List ℕ) (h : Header) (s : Parts) (l : LValue) {trace : List ℕ} {entries : ℕ} where
@@ -54,31 +55,6 @@ module _ (ρ : Env) (σ : List ℕ) (h : Header) (s : Parts) (l : LValue) {trace
       → Gets (and_then (eval ρ σ (reading_at h s i).as_expr) (inside n (ρ x))) trace entries trace' v → Gets (address ρ σ (place_of h s l)) trace entries trace' v
   unfolding address
   address-entry y {trace'} {v} g = subst⁻¹ (λ k. Gets (address ρ σ k) trace entries trace' v) (y.place h s) g
-
--- The cell of an L-value by its three numbers: a variable that stands whole has no index, an entry has one that can be worked out.
-pub index-readable : (nodes : List ℕ) (l : LValue) → Indexed nodes l → (index_of l ≡ missing → ⊥) → Readable is_expression nodes (index_of l)
-unfolding index_of Indexed
-index-readable nodes (Variable n x) r some = absurd (some refl)
-index-readable nodes (Element n x i) r some = r
-index-readable nodes (Unsafe n x i) r some = r
-
-not_missing : {nodes : List ℕ} {i : ℕ} → Readable is_expression nodes i → i ≡ missing → ⊥
-not_missing r e = omega (arith, r.inside, r.few, e)
-
-module _ (ρ : Env) (σ : List ℕ) (h : Header) (s : Parts) {trace : List ℕ} {entries : ℕ} where
-  pub located_whole : (nodes : List ℕ) (l : LValue) {node root index : ℕ} → Indexed nodes l → Numbered l node root index → index ≡ missing
-      → Gets (address ρ σ (place_of h s l)) trace entries trace (answer (ρ root).base 0 0 entries)
-  unfolding index_of Indexed root_of
-  located_whole nodes (Variable n x) r m e = rw m.root_is (address-whole ρ σ h s (Variable n x) n x refl)
-  located_whole nodes (Element n x i) r m e = absurd (not_missing r (sym m.index_is ∙ e))
-  located_whole nodes (Unsafe n x i) r m e = absurd (not_missing r (sym m.index_is ∙ e))
-
-  pub located_entry : {trace' : List ℕ} {v : Valued} (l : LValue) {node root index : ℕ} → Numbered l node root index → (index ≡ missing → ⊥)
-      → Gets (and_then (eval ρ σ (reading_at h s index).as_expr) (inside node (ρ root))) trace entries trace' v → Gets (address ρ σ (place_of h s l)) trace entries trace' v
-  unfolding index_of root_of
-  located_entry (Variable n x) m some g = absurd (some m.index_is)
-  located_entry (Element n x i) m some g = address-entry ρ σ h s (Element n x i) (element-entry n x i refl) (rw (m.node-is, m.root_is, m.index_is) at g)
-  located_entry (Unsafe n x i) m some g = address-entry ρ σ h s (Unsafe n x i) (unsafe_entry n x i refl) (rw (m.node-is, m.root_is, m.index_is) at g)
 
 -- The change of an update's cell, whose size is that of the root's slot, in the direction that it goes.
 pub update_as : (ρ : Env) (h : Header) (s : Parts) (l : LValue) (d : Direction) (o u : Update) (x z v i : ℕ) {cells cells' trace trace' : List ℕ} {run run' : Run}

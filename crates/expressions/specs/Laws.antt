@@ -5,9 +5,7 @@ use Rattle.std.specs.Prelude.{◌≡◌, refl, List, ◌++◌}
 use Rattle.std.proofs.Common.{sym, ◌∙◌, append_assoc, arith}
 use Rattle.std.proofs.Math.Path.{subst⁻¹}
 use Rattle.rules.specs.Machine.{State, Out, done, Command, Found, found, fault, after, and_then, noted, step_from, step, on_found, reading, next, both}
-use Rattle.expressions.specs.declared.Run.{Run}
-use Rattle.expressions.specs.declared.Valued.{Valued}
-use Rattle.expressions.specs.Relations.{Traced, Finding, Failing, Answers, finding, failing, Got, Gets, After, Holds, Stopped, Matches, goes_on, is_stopped, Does}
+use Rattle.expressions.specs.Relations.{Run, Valued, Traced, Finding, Failing, Answers, finding, failing, Got, Gets, After, Holds, Stopped, Matches, goes_on, is_stopped, Does}
 
 -- ---- answers
 
@@ -119,34 +117,6 @@ module _ (F : List ℕ → Found ℕ) (f : ℕ → Command) {cells trace trace�
 
   pub value_refused : (v.number ≡ 0 → ⊥) → {cells' : List ℕ} → Does (reading F f) cells trace run cells' trace₁ run₁
   value_refused z c h = reading-refused f c h F (g c.events h.traced) z a
-
--- Two values, one after the other: a target's cell and a value, two cells, two bounds.
-abbrev pub onward : Run → Valued → Run
-onward run v = record { number = v.number; place = v.place; left = run.left; entries = v.entries }
-
-abbrev pub twice : (List ℕ → Found ℕ) → (List ℕ → Found ℕ) → (ℕ → ℕ → Command) → Command
-twice F G f = reading F (λ i. reading G (f i))
-
-module _ (F G : List ℕ → Found ℕ) (f : ℕ → ℕ → Command) {cells trace trace₁ : List ℕ} {run : Run} (v : Valued)
-    (g : Gets (F cells) trace run.entries trace₁ v) where
-  pub first_refused : (v.number ≡ 0 → ⊥) → {run₁ : Run} → After run v.number v.place v.entries run₁ → {cells' : List ℕ}
-      → Does (twice F G f) cells trace run cells' trace₁ run₁
-  first_refused z a = value_refused F (λ i. reading G (f i)) v g a z
-
-  module _ (z : v.number ≡ 0) {trace₂ : List ℕ} (w : Valued) (g' : Gets (G cells) trace₁ v.entries trace₂ w)
-      {run₂ : Run} (a : After run w.number w.place w.entries run₂) where
-    onto : After run v.number v.place v.entries (onward run v)
-    onto = record { number_is = refl; place_is = refl; left_is = refl; entries_are = refl }
-
-    onto_second : After (onward run v) w.number w.place w.entries run₂
-    onto_second = record { number_is = a.number_is; place_is = a.place_is; left_is = a.left_is; entries_are = a.entries_are }
-
-    pub second_refused : (w.number ≡ 0 → ⊥) → {cells' : List ℕ} → Does (twice F G f) cells trace run cells' trace₂ run₂
-    second_refused y = value_on F (λ i. reading G (f i)) v g onto z (value_refused G (f v.value) w g' onto_second y)
-
-    pub second_on : w.number ≡ 0 → {cells' trace' : List ℕ} {run' : Run} → Does (f v.value w.value) cells trace₂ run₂ cells' trace' run'
-        → Does (twice F G f) cells trace run cells' trace' run'
-    second_on y go = value_on F (λ i. reading G (f i)) v g onto z (value_on G (f v.value) w g' onto_second y go)
 
 -- ---- a run goes on after what was done
 

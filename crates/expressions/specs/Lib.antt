@@ -5,3 +5,5 @@ pub mod Trace
 pub mod Meaning
 pub mod Laws
 pub mod Agreement
+pub mod Standing
+pub mod Results

@@ -1,5 +1,5 @@
 -- What a node of the program means as a tree and refers to, for a node that was decoded from the slice that is lent.
-use Rattle.std.specs.Prelude.{ℕ, ◌-◌, ◌≤◌, ◌<◌, ◌≡◌, refl, List, [], ◌∷◌, Bool, true, ◌⊎◌}
+use Rattle.std.specs.Prelude.{ℕ, ◌-◌, ◌≤◌, ◌<◌, ◌≡◌, refl, List, [], ◌∷◌, Bool, true, ◌⊎◌, Some, None, Ok, Err}
 use Rattle.std.proofs.Common.{sym, ap, ◌∙◌, subst, ⊎_elim, arith}
 use Rattle.std.proofs.Math.Path.{subst⁻¹}
 use Rattle.rules.specs.Image.{missing, Header, Parts, node_of, is_expression, is_lvalue}
@@ -8,8 +8,7 @@ use Rattle.rules.specs.Tree.{reading_at, no_reading}
 use Rattle.records.specs.declared.LValue.{LValue}
 use Rattle.records.specs.declared.LValue.TheVariants.{Variable, Element, Unsafe}
 use Rattle.records.specs.declared.Node.{Node}
-use Rattle.records.specs.declared.Target.TheVariants.{Place, Other}
-use Rattle.records.specs.declared.Decoded.TheVariants.{Is, Refused}
+use Rattle.records.specs.declared.refusal.Refusal.{Refusal}
 use Rattle.records.specs.Decode.{lvalue_at, decoded_at}
 use Rattle.records.specs.Fits.{Child}
 use Rattle.records.specs.Cases.{place_of, Named, Means, Refers, Understood}
@@ -25,9 +24,9 @@ module _ (h : Header) (s : Parts) {nodes variables constants : List ℕ} (p : Pr
   program-fit : (n : ℕ) → n < h.nodes → record_fits h s.nodes n (node_of s.nodes n) ≡ true
   program-fit n l = subst⁻¹ (λ l. record_fits h l n (node_of l n) ≡ true) p.nodes_are (p.fit n l)
 
-  module _ (n : ℕ) (inside : n < h.nodes) (x : Node) (e : decoded_at nodes n ≡ Is x) where
-    decoded : decoded_at s.nodes n ≡ Is x
-    decoded = subst⁻¹ (λ l. decoded_at l n ≡ Is x) p.nodes_are e
+  module _ (n : ℕ) (inside : n < h.nodes) (x : Node) (e : decoded_at nodes n ≡ Ok x) where
+    decoded : decoded_at s.nodes n ≡ Ok x
+    decoded = subst⁻¹ (λ l. decoded_at l n ≡ Ok x) p.nodes_are e
 
     pub program-means : Means h s n x
     program-means = means h s program-few program-fit n inside x decoded
@@ -37,14 +36,14 @@ module _ (h : Header) (s : Parts) {nodes variables constants : List ℕ} (p : Pr
 
   -- A node that is an L-value is decoded into one, and is an argument with what follows it.
   module _ (n : ℕ) (inside : n < h.nodes) (i : is_lvalue (node_of nodes n).kind ≡ true) where
-    pub program-argument : (l : LValue) → lvalue_at nodes n ≡ Place l → Understood h s n (Is (Argument l (node_of nodes n).next))
+    pub program-argument : (l : LValue) → lvalue_at nodes n ≡ Some l → Understood h s n (Ok (Argument l (node_of nodes n).next))
     program-argument l e =
-        subst (λ x. is_lvalue (node_of x n).kind ≡ true → lvalue_at x n ≡ Place l → Understood h s n (Is (Argument l (node_of x n).next))) p.nodes_are
+        subst (λ x. is_lvalue (node_of x n).kind ≡ true → lvalue_at x n ≡ Some l → Understood h s n (Ok (Argument l (node_of x n).next))) p.nodes_are
         (λ i e. rw e at (argument_understood h s program-few program-fit 0 n inside i)) i e
 
-    pub program-not_other : lvalue_at nodes n ≡ Other → ⊥
+    pub program-not_other : lvalue_at nodes n ≡ None → ⊥
     program-not_other e =
-        subst (λ x. is_lvalue (node_of x n).kind ≡ true → lvalue_at x n ≡ Other → ⊥) p.nodes_are
+        subst (λ x. is_lvalue (node_of x n).kind ≡ true → lvalue_at x n ≡ None → ⊥) p.nodes_are
         (λ i e. rw e at (stands_at h s program-few program-fit n inside i)) i e
 
   -- No node is 65,535: what follows the last is nothing.
@@ -80,32 +79,32 @@ module _ {class : ℕ → Bool} {nodes : List ℕ} {n : ℕ} (r : Readable class
   pub inside_of : (h : Header) (s : Parts) {variables constants : List ℕ} → Program h s nodes variables constants → n < h.nodes
   inside_of h s p = omega (arith, r.long, r.inside, p.long)
 
-  pub readable_refers : (x : Node) → decoded_at nodes n ≡ Is x → Refers r.header alone n x
+  pub readable_refers : (x : Node) → decoded_at nodes n ≡ Ok x → Refers r.header alone n x
   readable_refers = program-refers r.header alone own n r.inside
 
   pub readable_child : (class' : ℕ → Bool) (m : ℕ) → Child r.header nodes n class' m → Readable class' nodes m
   readable_child = child_readable r.header alone own n
 
-  pub readable_not_refused : (number place : ℕ) → decoded_at nodes n ≡ Refused number place → ⊥
-  readable_not_refused number place e = not_refused r.header alone (program-few r.header alone own) r.fit n r.inside number place e
+  pub readable_not_refused : (x : Refusal) → decoded_at nodes n ≡ Err x → ⊥
+  readable_not_refused x e = not_refused r.header alone (program-few r.header alone own) r.fit n r.inside x e
 
 -- A readable L-value as an argument: what it lends can be worked out, and what follows it is an argument behind it or missing.
 module _ {nodes : List ℕ} {n : ℕ} (r : Readable is_lvalue nodes n) where
-  pub argument_place : (h : Header) (s : Parts) {variables constants : List ℕ} → Program h s nodes variables constants → (l : LValue) → lvalue_at nodes n ≡ Place l
+  pub argument_place : (h : Header) (s : Parts) {variables constants : List ℕ} → Program h s nodes variables constants → (l : LValue) → lvalue_at nodes n ≡ Some l
       → (m : ℕ) → m ≡ (node_of nodes n).next → (reading_at h s n).as_arguments ≡ place_of h s l ∷ (reading_at h s m).as_arguments
   argument_place h s p l e m next =
       (program-argument h s p n (inside_of r h s p) r.classed l e).0 ∙ ap (λ k. place_of h s l ∷ (reading_at h s k).as_arguments) (sym next)
 
-  pub argument_indexed : (l : LValue) → lvalue_at nodes n ≡ Place l → Indexed nodes l
+  pub argument_indexed : (l : LValue) → lvalue_at nodes n ≡ Some l → Indexed nodes l
   argument_indexed l e = named-indexed r.header (alone r) (own r) l (program-argument r.header (alone r) (own r) n r.inside r.classed l e).1.0
 
-  pub argument_next : (l : LValue) → lvalue_at nodes n ≡ Place l → ((node_of nodes n).next ≡ missing) ⊎ Child r.header nodes n is_lvalue (node_of nodes n).next
+  pub argument_next : (l : LValue) → lvalue_at nodes n ≡ Some l → ((node_of nodes n).next ≡ missing) ⊎ Child r.header nodes n is_lvalue (node_of nodes n).next
   argument_next l e = (program-argument r.header (alone r) (own r) n r.inside r.classed l e).1.1
 
-  pub argument_found : lvalue_at nodes n ≡ Other → ⊥
+  pub argument_found : lvalue_at nodes n ≡ None → ⊥
   argument_found = program-not_other r.header (alone r) (own r) n r.inside r.classed
 
-  module _ (l : LValue) (e : lvalue_at nodes n ≡ Place l) (m : ℕ) (next : m ≡ (node_of nodes n).next) where
+  module _ (l : LValue) (e : lvalue_at nodes n ≡ Some l) (m : ℕ) (next : m ≡ (node_of nodes n).next) where
     pub next-falls : 65535 - m < 65535 - n
     next-falls =
         let small : n < 4096 = omega (arith, r.inside, r.few) in

@@ -1,20 +1,33 @@
 -- What the lent slices and the numbers of the code stand for: the trace, the slots, the program, what is worked out, a run's state.
-use Rattle.std.specs.Prelude.{ℕ, ◌+◌, ◌-◌, ◌*◌, ◌^◌, ◌≤◌, ◌<◌, ◌≡◌, List, [], ◌∷◌, ◌++◌, Bool, true, false, cond, ◌⊎◌, length, get_or, set, take, replicate, eqb, ltb}
-use Rattle.rules.specs.Words.{Direction, forward, inverse}
+unfoldable pub use Rattle.rules.specs.Promised.{direction_of}
+use Rattle.std.specs.Prelude.{ℕ, ◌+◌, ◌-◌, ◌*◌, ◌^◌, ◌≤◌, ◌<◌, ◌≡◌, List, [], ◌∷◌, ◌++◌, Bool, true, ◌⊎◌, length, get_or, take, replicate, min}
 use Rattle.rules.specs.Image.{missing, Header, Parts, node_of, is_expression, is_lvalue}
 use Rattle.rules.specs.Form.{record_fits}
 use Rattle.rules.specs.Machine.{Slot, no_slot, Env, State, Out, done, stop, Command, Found, found, fault}
 use Rattle.records.specs.declared.LValue.{LValue}
 use Rattle.records.specs.declared.LValue.TheVariants.{Variable, Element, Unsafe}
-use Rattle.records.specs.Cases.{node_of_lvalue}
-use Rattle.expressions.specs.declared.Run.{Run}
-use Rattle.expressions.specs.declared.Valued.{Valued}
+pub use Rattle.records.specs.LValues.{root_of}
+pub use Rattle.records.specs.Slots.{Table, slot_of}
+
+-- How far a run has come: its refusal, which is 0 while it goes on, the place, the steps that are left, the trace's entries.
+pub record Run : Type 0 where
+  pub number : ℕ
+  pub place : ℕ
+  pub left : ℕ
+  pub entries : ℕ
+
+-- What is worked out: a value, or a refusal and its place where the number is not 0; and the trace's entries after it.
+pub record Valued : Type 0 where
+  pub value : ℕ
+  pub number : ℕ
+  pub place : ℕ
+  pub entries : ℕ
 
 -- ---- the trace
 
 -- A count of 64 bits that stays where it can go no further.
 unfoldable pub saturated : ℕ → ℕ
-saturated n = cond (ltb n (2 ^ 64 - 1)) n (2 ^ 64 - 1)
+saturated n = min n (2 ^ 64 - 1)
 
 -- "The trace slice holds the first entries that fit, then zeros", of the events so far, and `entries` is how many there are.
 pub record Traced (trace : List ℕ) (entries : ℕ) (events : List ℕ) : Type 0 where
@@ -27,21 +40,17 @@ Emitted event trace entries trace' entries' = (events : List ℕ) → Traced tra
 
 -- ---- where variables live
 
--- Four numbers for each variable: first cell, how many cells, their size, secrecy.
-abbrev pub slot_of : List ℕ → Env
-slot_of slots x = record { base = get_or slots (x * 4) 0; cells = get_or slots (x * 4 + 1) 0; width = get_or slots (x * 4 + 2) 0; hidden = eqb (get_or slots (x * 4 + 3) 0) 1 }
-
 -- A slot whose size is a word's, and whose cells are among the 4,096.
 pub record Good (x : Slot) : Type 0 where
   pub some : 0 < x.width
   pub most : x.width ≤ 64
   pub placed : x.base + x.cells ≤ 4096
 
--- Every name from lo on, below hi, lives where the slots say, in a good slot, and there are rows for all names before them.
-pub record Agree (slots : List ℕ) (ρ : Env) (lo hi : ℕ) : Type 0 where
+-- Every name from lo on, below hi, lives where the slots say, in a good slot, and there are slots for all names before them.
+pub record Agree (slots : Table) (ρ : Env) (lo hi : ℕ) : Type 0 where
   pub rows : (y : ℕ) → lo ≤ y → y < hi → slot_of slots y ≡ ρ y
   pub good : (y : ℕ) → lo ≤ y → y < hi → Good (ρ y)
-  pub room : lo * 4 ≤ length slots
+  pub room : lo ≤ length slots
 
 -- ---- the program
 
@@ -72,24 +81,6 @@ Indexed nodes (Unsafe n x i) = Readable is_expression nodes i
 -- Node n is an argument, or missing.
 abbrev pub Chained : List ℕ → ℕ → Type 0
 Chained nodes n = (n ≡ missing → ⊥) → Readable is_lvalue nodes n
-
--- The variable that it names.
-unfoldable pub root_of : LValue → ℕ
-root_of (Variable n x) = x
-root_of (Element n x i) = x
-root_of (Unsafe n x i) = x
-
--- The node of its index, which is missing where a variable stands whole.
-unfoldable pub index_of : LValue → ℕ
-index_of (Variable n x) = missing
-index_of (Element n x i) = i
-index_of (Unsafe n x i) = i
-
--- The L-value's own node, the variable that it names and the node of its index.
-pub record Numbered (l : LValue) (node root index : ℕ) : Type 0 where
-  pub node-is : node ≡ node_of_lvalue l
-  pub root_is : root ≡ root_of l
-  pub index_is : index ≡ index_of l
 
 -- ---- what is worked out
 
@@ -154,24 +145,16 @@ pub data Matches : Out → List ℕ → List ℕ → Run → Type 0 where
 abbrev pub Does : Command → List ℕ → List ℕ → Run → List ℕ → List ℕ → Run → Type 0
 Does f cells trace run cells' trace' run' = (c : State) → Holds c cells trace run → Matches (f c) cells' trace' run'
 
-unfoldable pub direction_of : Bool → Direction
-direction_of true = inverse
-direction_of false = forward
-
 -- ---- arguments
 
--- Row y with these four numbers.
-unfoldable pub written : List ℕ → ℕ → ℕ → ℕ → ℕ → ℕ → List ℕ
-written slots y base count width secrecy = set (set (set (set slots (y * 4) base) (y * 4 + 1) count) (y * 4 + 2) width) (y * 4 + 3) secrecy
-
--- The rows from y on hold these slots.
-abbrev pub Rows : List ℕ → ℕ → List Slot → Type 0
+-- The table from y on has these slots.
+abbrev pub Rows : Table → ℕ → List Slot → Type 0
 Rows slots y xs = (j : ℕ) → j < length xs → slot_of slots (y + j) ≡ get_or xs j no_slot
 
--- All rows but the count ones from y on are as before.
-abbrev pub Apart : List ℕ → List ℕ → ℕ → ℕ → Type 0
+-- All slots but the count ones from y on are as before.
+abbrev pub Apart : Table → Table → ℕ → ℕ → Type 0
 Apart slots slots' y count = (x : ℕ) → (x < y) ⊎ (y + count ≤ x) → slot_of slots' x ≡ slot_of slots x
 
--- The slots that were found stand in the rows from y on, or it is the refusal.
-abbrev pub Lends : Found (List Slot) → ℕ → List ℕ → List ℕ → List ℕ → Run → Type 0
+-- The slots that were found stand in the table from y on, or it is the refusal.
+abbrev pub Lends : Found (List Slot) → ℕ → List ℕ → Table → List ℕ → Run → Type 0
 Lends A y events slots trace r = Answers (λ xs. Rows slots y xs) A events trace r.number r.place r.entries

@@ -1,28 +1,26 @@
 // The two functions of the C boundary, which firmware_c exports. Nothing needs to be checked first.
 #![tactic(auto)]
 
-ghost use Rattle.std.specs.Prelude.{◌≡◌, [], ◌∷◌, length};
+ghost use Rattle.std.specs.Prelude.{◌≡◌, length};
 ghost use Rattle.rules.specs.Run.{fitted};
 ghost use Rattle.rules.specs.Promised.{CheckedInto, RanInto};
 ghost use Rattle.runner.specs.Runs.{as_given};
 
 // The answer gets these numbers as far as they fit, then zeros.
-fn answered(answer: &mut [u64], a: u64, b: u64, c: u64, d: u64)
-    ensures { answer.new ≡ fitted (length answer.old) (a ∷ b ∷ c ∷ d ∷ []) }
+fn answered<const N: usize>(answer: &mut [u64], numbers: [u64; N])
+    ensures { answer.new ≡ fitted (length answer.old) numbers.entry }
 {
-    entry::work::clear(answer);
-    expressions::put(answer, 0, a);
-    expressions::put(answer, 1, b);
-    expressions::put(answer, 2, c);
-    expressions::put(answer, 3, d);
+    let told = answer.len().min(N);
+    answer[..told].copy_from_slice(&numbers[..told]);
+    answer[told..].fill(0);
 }
 
 // The verdict of an image: number and place.
 pub fn hermes_check(image: &[u8], answer: &mut [u64])
     ensures { CheckedInto image.now (length answer.old) answer.new }
 {
-    let verdict = checker::check(image);
-    answered(answer, verdict.number as u64, verdict.place as u64, 0, 0);
+    let (number, place) = records::numbers(checker::check(image));
+    answered(answer, [number.into(), place.into()]);
 }
 
 // The run of an image over a lent store: number, place, steps and trace entries.
@@ -40,11 +38,9 @@ pub fn hermes_run(
         (length answer.old) store.new work.new trace.new answer.new }
 {
     let ran = runner::run(image, inverse, lengths, store, work, budget, trace);
+    let (number, place) = records::numbers(ran.verdict);
     answered(
         answer,
-        ran.number as u64,
-        ran.place as u64,
-        ran.steps as u64,
-        ran.entries,
+        [number.into(), place.into(), ran.steps.into(), ran.entries],
     );
 }

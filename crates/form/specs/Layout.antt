@@ -2,8 +2,7 @@
 use Rattle.std.specs.Prelude.{ℕ, ◌+◌, ◌-◌, ◌*◌, ◌≤◌, ◌≡◌, refl, List, Bool, true, false, not, ◌&&◌, eqb, leb, length, drop}
 use Rattle.std.proofs.Math.Path.{ap}
 use Rattle.std.proofs.Common.{◌∙◌, arith, eqb-true, leb-true, length-drop, length-take-le}
-use Rattle.rules.specs.Image.{Header, header_of, Parts, parts_of, part}
-use Rattle.rules.specs.Check.{form_refusal}
+use Rattle.rules.specs.Image.{Header, header_of, part}
 use Rattle.rules.specs.Form.{Verdict, given, counts_fit, parts_follow, layout_refusal}
 use Rattle.records.specs.Truth.{both}
 
@@ -59,25 +58,14 @@ not_given number place n false e = absurd (n e)
 pub laid_by : (h : Header) (bytes : ℕ) (v : Verdict) → v ≡ given 2 0 (not (counts_fit h && parts_follow h bytes)) → v.number ≡ 0 → Laid h bytes
 laid_by h bytes v e n = laid h bytes (not_given 2 0 (λ z. omega arith) (counts_fit h && parts_follow h bytes) (rw e at n))
 
--- The parts by a header, and how long each is.
-abbrev pub parts_by : Header → List ℕ → Parts
-parts_by h image = record {
-  procedures = part image h.procedure_part h.variable_part;
-  variables = part image h.variable_part h.node_part;
-  nodes = part image h.node_part h.constant_part;
-  constants = part image h.constant_part h.total;
-}
-
+-- How long a part is.
 pub part-long : (image : List ℕ) (from end : ℕ) → end ≤ length image → length (part image from end) ≡ end - from
 part-long image from end l =
     let d : length (drop from image) ≡ length image - from = length-drop from image in
     length-take-le (end - from) (drop from image) (omega arith)
 
--- The layout and the form by a header that is the image's.
+-- The layout by a header that is the image's.
 module _ (image : List ℕ) (h : Header) (here : h ≡ header_of image) (v : Verdict) where
   pub layout_is : v ≡ given 2 0 (not (counts_fit h && parts_follow h (length image))) → v ≡ layout_refusal image
   unfolding layout_refusal
   layout_is e = e ∙ ap (λ (z : Header). given 2 0 (not (counts_fit z && parts_follow z (length image)))) here
-
-  pub form_is : v ≡ form_refusal h (parts_by h image) → v ≡ form_refusal (header_of image) (parts_of image)
-  form_is e = e ∙ ap (λ (z : Header). form_refusal z (parts_by z image)) here

@@ -1,30 +1,21 @@
 -- L-values, and chains of statements and arguments: what is read at a node, and what follows it.
-use Rattle.std.specs.Prelude.{ℕ, ◌≤◌, ◌<◌, ◌≡◌, refl, List, [], ◌∷◌, ◌++◌, Bool, true, false, ◌⊎◌}
+use Rattle.std.specs.Prelude.{ℕ, ◌≤◌, ◌<◌, ◌≡◌, refl, List, [], ◌∷◌, ◌++◌, Bool, true, ◌⊎◌, Option, Some, None}
 use Rattle.std.proofs.Common.{sym, ap, subst, ◌∙◌, inl, inr, ⊎_elim, arith}
 use Rattle.rules.specs.Image.{missing, Header, Parts, node_of, is_statement, is_expression, is_lvalue}
 use Rattle.rules.specs.Tree as tree
-use Rattle.rules.specs.Tree.{reading_at, root, index, roots, indices}
+use Rattle.rules.specs.Tree.{reading_at, root, index, variables, roots, indices}
 use Rattle.records.specs.Fits.{Child, next_statement_lem, next_lvalue_lem}
 use Rattle.records.specs.Reading.{reading-missing, stmts_reading, arguments-reading}
 use Rattle.records.specs.Decode.{lvalue_at}
 use Rattle.records.specs.Cases.{Named, place_of}
 use Rattle.records.specs.Understood.{Placed, Stands, fit_at, stands_at}
+pub use Rattle.records.specs.LValues.{root_of, whole_of}
+use Rattle.records.specs.LValues.{node_of_lvalue, index_of}
 use Rattle.records.specs.declared.LValue.{LValue}
 use Rattle.records.specs.declared.LValue.TheVariants.{Variable, Element, Unsafe}
-use Rattle.records.specs.declared.Target.TheVariants.{Place, Other}
 use Rattle.names.specs.Sound.{Sound, Standing, Known, Chain, KnownChain, standing_child}
 
 -- ---- L-values
-
-abbrev pub root_of : LValue → ℕ
-root_of (Variable n x) = x
-root_of (Element n x i) = x
-root_of (Unsafe n x i) = x
-
-abbrev pub whole_of : LValue → Bool
-whole_of (Variable n x) = true
-whole_of (Element n x i) = false
-whole_of (Unsafe n x i) = false
 
 pub root-place : (h : Header) (s : Parts) (l : LValue) → root (place_of h s l) ≡ root_of l
 unfolding root
@@ -64,11 +55,36 @@ module _ {nodes : List ℕ} {h : Header} {s : Parts} where
     classed = subst (λ (a : List ℕ). is_expression (node_of a m).kind ≡ true) g.own c.classed;
   }
 
-pub known_element : {nodes : List ℕ} {n x i : ℕ} → KnownNaming nodes (Element n x i) → Known is_expression nodes i
-known_element k = record { header = k.header; parts = k.parts; standing = standing_index k.naming k.naming.names.1 }
+-- A name by itself has no index, and the index of an element is an expression.
+module _ (nodes : List ℕ) (h : Header) (s : Parts) where
+  pub index_none : (l : LValue) → index_of l ≡ None → index (place_of h s l) ≡ []
+  unfolding index
+  index_none (Variable n x) e = refl
+  index_none (Element n x i) e = absurd cc
+  index_none (Unsafe n x i) e = absurd cc
 
-pub known_unsafe : {nodes : List ℕ} {n x i : ℕ} → KnownNaming nodes (Unsafe n x i) → Known is_expression nodes i
-known_unsafe k = record { header = k.header; parts = k.parts; standing = standing_index k.naming k.naming.names.1 }
+  pub index_some : (l : LValue) {i : ℕ} → index_of l ≡ Some i → index (place_of h s l) ≡ variables (reading_at h s i).as_expr
+  unfolding index
+  index_some (Variable n x) e = absurd cc
+  index_some (Element n x j) {i} e = let k : j ≡ i = cc in rw k
+  index_some (Unsafe n x j) {i} e = let k : j ≡ i = cc in rw k
+
+  pub index_stands : (l : LValue) {i : ℕ} → Naming nodes h s l → index_of l ≡ Some i → Standing is_expression nodes h s i
+  index_stands (Variable n x) g e = absurd cc
+  index_stands (Element n x j) {i} g e = let k : j ≡ i = cc in rw k at (standing_index g g.names.1)
+  index_stands (Unsafe n x j) {i} g e = let k : j ≡ i = cc in rw k at (standing_index g g.names.1)
+
+  pub index_behind : (l : LValue) {i : ℕ} → Naming nodes h s l → index_of l ≡ Some i → (node_of_lvalue l < i) × (i < 4096)
+  index_behind (Variable n x) g e = absurd cc
+  index_behind (Element n x j) {i} g e = let k : j ≡ i = cc in let f = g.sound.few in let c = g.names.1 in let b = c.behind in let d = c.inside in (omega arith, omega arith)
+  index_behind (Unsafe n x j) {i} g e = let k : j ≡ i = cc in let f = g.sound.few in let c = g.names.1 in let b = c.behind in let d = c.inside in (omega arith, omega arith)
+
+module _ {nodes : List ℕ} {l : LValue} {i : ℕ} (k : KnownNaming nodes l) (e : index_of l ≡ Some i) where
+  pub known_index : Known is_expression nodes i
+  known_index = record { header = k.header; parts = k.parts; standing = index_stands nodes k.header k.parts l k.naming e }
+
+  pub known_behind : (node_of_lvalue l < i) × (i < 4096)
+  known_behind = index_behind nodes k.header k.parts l k.naming e
 
 -- ---- chains
 
@@ -85,14 +101,6 @@ module _ {class : ℕ → Bool} {nodes : List ℕ} {h : Header} {s : Parts} {n :
   pub no_arguments : Chain class nodes h s n → n ≡ missing → (reading_at h s n).as_arguments ≡ []
   no_arguments k e = ap (λ (r : tree.Reading). r.as_arguments) (none k e)
 
-  pub no_roots : Chain class nodes h s n → n ≡ missing → roots (reading_at h s n).as_arguments ≡ []
-  unfolding roots
-  no_roots k e = rw (no_arguments k e)
-
-  pub no_indices : Chain class nodes h s n → n ≡ missing → indices (reading_at h s n).as_arguments ≡ []
-  unfolding indices
-  no_indices k e = rw (no_arguments k e)
-
   pub no_statements : Chain class nodes h s n → n ≡ missing → (reading_at h s n).as_stmts ≡ tree.nothing
   no_statements k e = ap (λ (r : tree.Reading). r.as_stmts) (none k e)
 
@@ -106,7 +114,7 @@ module _ {nodes : List ℕ} {h : Header} {s : Parts} {n : ℕ} (st : Standing is
   argument_stands : Stands h s n (lvalue_at nodes n)
   argument_stands = subst (λ (a : List ℕ). Stands h s n (lvalue_at a n)) st.own (stands_at h s few_arguments st.sound.fit n st.inside classed_argument)
 
-  pub no_other : lvalue_at nodes n ≡ Other → ⊥
+  pub no_other : lvalue_at nodes n ≡ None → ⊥
   no_other d = rw d at argument_stands
 
   argument_next_own : ((node_of s.nodes n).next ≡ missing) ⊎ Child h s.nodes n is_lvalue (node_of s.nodes n).next
@@ -122,7 +130,7 @@ module _ {nodes : List ℕ} {h : Header} {s : Parts} {n : ℕ} (st : Standing is
   pub some_argument : (reading_at h s n).as_arguments ≡ (reading_at h s n).as_lvalue ∷ (reading_at h s (node_of s.nodes n).next).as_arguments
   some_argument = arguments-reading h s few_arguments n st.inside (fit_at h s few_arguments st.sound.fit n st.inside) classed_argument
 
-  module _ {l : LValue} (d : lvalue_at nodes n ≡ Place l) where
+  module _ {l : LValue} (d : lvalue_at nodes n ≡ Some l) where
     placed : Placed h s n l
     placed = rw d at argument_stands
 
@@ -135,19 +143,6 @@ module _ {nodes : List ℕ} {h : Header} {s : Parts} {n : ℕ} (st : Standing is
         ∙ ap (λ (a : tree.LValue). a ∷ (reading_at h s (node_of s.nodes n).next).as_arguments) placed.place
         ∙ ap (λ (a : List ℕ). place_of h s l ∷ (reading_at h s (node_of a n).next).as_arguments) st.own
         ∙ ap (λ (a : ℕ). place_of h s l ∷ (reading_at h s a).as_arguments) (sym e)
-
-    module _ {x : ℕ} (e : x ≡ root_of l) where
-      pub argument_small : x < 1024
-      argument_small = rw e (root-small argument_naming)
-
-      pub first_root : {m : ℕ} → m ≡ (node_of nodes n).next → roots (reading_at h s n).as_arguments ≡ x ∷ roots (reading_at h s m).as_arguments
-      unfolding roots
-      first_root {m} k = rw (first_argument_lem k, root-place h s l, ← e)
-
-    pub first_indices : {m : ℕ} → m ≡ (node_of nodes n).next
-        → indices (reading_at h s n).as_arguments ≡ index (place_of h s l) ++ indices (reading_at h s m).as_arguments
-    unfolding indices
-    first_indices k = rw (first_argument_lem k)
 
 module _ {nodes : List ℕ} {h : Header} {s : Parts} {n : ℕ} (st : Standing is_statement nodes h s n) where
   few_statements : h.nodes ≤ missing
@@ -175,7 +170,7 @@ module _ {nodes : List ℕ} {h : Header} {s : Parts} {n : ℕ} (st : Standing is
 -- ---- the same of what is known to stand
 
 module _ {nodes : List ℕ} {n : ℕ} where
-  pub known_argument : KnownChain is_lvalue nodes n → (n ≡ missing → ⊥) → {l : LValue} → lvalue_at nodes n ≡ Place l → KnownNaming nodes l
+  pub known_argument : KnownChain is_lvalue nodes n → (n ≡ missing → ⊥) → {l : LValue} → lvalue_at nodes n ≡ Some l → KnownNaming nodes l
   known_argument k ne d = record { header = k.header; parts = k.parts; naming = argument_naming (chain_standing k.chain ne) d }
 
   pub known_arguments : KnownChain is_lvalue nodes n → (n ≡ missing → ⊥) → {m : ℕ} → m ≡ (node_of nodes n).next → KnownChain is_lvalue nodes m
@@ -197,3 +192,59 @@ module _ {nodes : List ℕ} {n : ℕ} where
 
   pub statement-ahead : KnownChain is_statement nodes n → (n ≡ missing → ⊥) → {m : ℕ} → m ≡ (node_of nodes n).next → (n < m) × (m ≤ missing)
   statement-ahead k ne e = let st = chain_standing k.chain ne in ahead st (rw e (statement-next st))
+
+-- ---- the first of a chain's arguments
+
+-- It, and the node that the others begin at, in a sound image.
+pub record Head (nodes : List ℕ) (h : Header) (s : Parts) (n : ℕ) (l : LValue) (m : ℕ) : Type 0 where
+  pub naming : Naming nodes h s l
+  pub rest : Chain is_lvalue nodes h s m
+  pub is : (reading_at h s n).as_arguments ≡ place_of h s l ∷ (reading_at h s m).as_arguments
+
+pub record Begins (nodes : List ℕ) (n : ℕ) (l : LValue) (m : ℕ) : Type 0 where
+  pub known : KnownNaming nodes l
+  pub rest : KnownChain is_lvalue nodes m
+  pub ahead : (n < m) × (m ≤ missing)
+  pub head : (h : Header) (s : Parts) → Chain is_lvalue nodes h s n → Head nodes h s n l m
+
+pub record Ends (nodes : List ℕ) (n : ℕ) : Type 0 where
+  pub none : (h : Header) (s : Parts) → Chain is_lvalue nodes h s n → (reading_at h s n).as_arguments ≡ []
+
+abbrev pub FirstArgument : List ℕ → ℕ → Option (LValue × ℕ) → Type 0
+FirstArgument nodes n (Some p) = Begins nodes n p.0 p.1
+FirstArgument nodes n None = Ends nodes n
+
+module _ {nodes : List ℕ} {n : ℕ} where
+  pub ends : n ≡ missing → Ends nodes n
+  ends e = record { none = λ h s k. no_arguments k e }
+
+  pub begins : KnownChain is_lvalue nodes n → (n ≡ missing → ⊥) → {l : LValue} → lvalue_at nodes n ≡ Some l → {m : ℕ} → m ≡ (node_of nodes n).next → Begins nodes n l m
+  begins k ne d e = record {
+    known = known_argument k ne d;
+    rest = known_arguments k ne e;
+    ahead = argument_ahead k ne e;
+    head = λ h s g.
+        let st = chain_standing g ne in
+        record { naming = argument_naming st d; rest = later_arguments st e; is = first_argument_lem st d e };
+  }
+
+module _ {nodes : List ℕ} {h : Header} {s : Parts} {n : ℕ} {l : LValue} {m : ℕ} (g : Head nodes h s n l m) where
+  pub head_small : root_of l < 1024
+  head_small = root-small g.naming
+
+  pub head_roots : roots (reading_at h s n).as_arguments ≡ root_of l ∷ roots (reading_at h s m).as_arguments
+  unfolding roots
+  head_roots = rw (g.is, root-place h s l)
+
+  pub head_indices : indices (reading_at h s n).as_arguments ≡ index (place_of h s l) ++ indices (reading_at h s m).as_arguments
+  unfolding indices
+  head_indices = rw g.is
+
+module _ {nodes : List ℕ} {h : Header} {s : Parts} {n : ℕ} (g : Ends nodes n) (k : Chain is_lvalue nodes h s n) where
+  pub end_roots : roots (reading_at h s n).as_arguments ≡ []
+  unfolding roots
+  end_roots = rw (g.none h s k)
+
+  pub end_indices : indices (reading_at h s n).as_arguments ≡ []
+  unfolding indices
+  end_indices = rw (g.none h s k)

@@ -1,23 +1,16 @@
 -- A node of a class is decoded into a case of the class: the arms of a match that are of the other class are never taken.
-use Rattle.std.specs.Prelude.{ℕ, ◌≤◌, ◌≡◌, List, [], ◌∷◌, Bool, true, false, eqb, leb}
+use Rattle.std.specs.Prelude.{ℕ, ◌≤◌, ◌≡◌, List, Bool, true, false, eqb, leb, Option, Some, None, Ok, Err}
 use Rattle.std.proofs.Math.Path.{refl, sym}
 use Rattle.std.proofs.Common.{ap, ◌∙◌, arith}
 use borrow.Author.Tests.{leb-true, eqb-true}
-use types.Run.{OneOf, miss}
-use denote.Enum.Declared.{tag_of}
 use Rattle.rules.specs.Image as rules
 use Rattle.rules.specs.Image.{is_statement, is_expression}
 use Rattle.records.specs.Truth.{never, both, chosen, past}
-use Rattle.records.specs.Decode.{lvalue_by, lvalue_at, with_target, expression_by, decoded_by}
+use Rattle.records.specs.Decode.{Decoded, lvalue_by, lvalue_at, with_target, expression_by, decoded_by}
 use Rattle.records.specs.Cases.{node_of_lvalue}
 use Rattle.records.specs.declared.LValue.{LValue}
-use Rattle.records.specs.declared.Target.{Target}
-use Rattle.records.specs.declared.Target.TheVariants.{Place, Other}
 use Rattle.records.specs.declared.Node.{Node}
-use Rattle.records.specs.contracts.Node.{the_type}
 use Rattle.records.specs.declared.Node.TheVariants.{Empty, Update, Swap, ConditionalSwap, If, For, Call, Uncall, Block, Constant, Value, Size, Binary, Not, Argument}
-use Rattle.records.specs.declared.Decoded.{Decoded}
-use Rattle.records.specs.declared.Decoded.TheVariants.{Is, Refused}
 
 abbrev pub statement_case : Node → Bool
 statement_case Empty = true
@@ -55,16 +48,16 @@ expression_case (Argument l m) = false
 
 -- Of a decoded node; a refusal is none of either class, and never comes.
 abbrev pub decoded_as : (Node → Bool) → Decoded → Bool
-decoded_as class (Is x) = class x
-decoded_as class (Refused number place) = true
+decoded_as class (Ok x) = class x
+decoded_as class (Err r) = true
 
 pub record Classed (class : Node → Bool) (d : Decoded) : Type 0 where
   pub is : decoded_as class d ≡ true
 
-placed : (class : Node → Bool) (t : Target) (n : ℕ) (made : LValue → Decoded)
+placed : (class : Node → Bool) (t : Option LValue) (n : ℕ) (made : LValue → Decoded)
     → ((l : LValue) → Classed class (made l)) → Classed class (with_target t n made)
-placed class (Place l) n made go = go l
-placed class Other n made go = record { is = refl }
+placed class (Some l) n made go = go l
+placed class None n made go = record { is = refl }
 
 module _ (s : List ℕ) (n : ℕ) (r : rules.Node) where
   as_expression : Classed expression_case (expression_by n r)
@@ -128,8 +121,8 @@ case_node n (Not a) = n
 case_node n (Argument l m) = n
 
 abbrev node_in : ℕ → Decoded → ℕ
-node_in n (Is x) = case_node n x
-node_in n (Refused number place) = n
+node_in n (Ok x) = case_node n x
+node_in n (Err r) = n
 
 module _ (s : List ℕ) (n : ℕ) (r : rules.Node) where
   own_value : node_in n (expression_by n r) ≡ n
@@ -139,12 +132,12 @@ module _ (s : List ℕ) (n : ℕ) (r : rules.Node) where
       (λ _. chosen (λ d. node_in n d ≡ n) (eqb r.kind 24) (λ e. refl)
       (λ _. chosen (λ d. node_in n d ≡ n) (eqb r.kind 25) (λ e. refl)
       (λ _. chosen (λ d. node_in n d ≡ n) (eqb r.kind 26) (λ e. refl)
-      (λ _. chosen (λ t. node_in n (with_target t n (λ l. Is (Value l))) ≡ n) (eqb r.kind 21) (λ e. refl)
-      (λ _. chosen (λ t. node_in n (with_target t n (λ l. Is (Value l))) ≡ n) (eqb r.kind 22) (λ e. refl)
-      (λ _. chosen (λ t. node_in n (with_target t n (λ l. Is (Value l))) ≡ n) (eqb r.kind 23) (λ e. refl) (λ _. refl)))))))
+      (λ _. chosen (λ t. node_in n (with_target t n (λ l. Ok (Value l))) ≡ n) (eqb r.kind 21) (λ e. refl)
+      (λ _. chosen (λ t. node_in n (with_target t n (λ l. Ok (Value l))) ≡ n) (eqb r.kind 22) (λ e. refl)
+      (λ _. chosen (λ t. node_in n (with_target t n (λ l. Ok (Value l))) ≡ n) (eqb r.kind 23) (λ e. refl) (λ _. refl)))))))
 
   -- It is the node's own.
-  pub own-node : is_expression r.kind ≡ true → (l : LValue) → decoded_by s n r ≡ Is (Value l) → node_of_lvalue l ≡ n
+  pub own-node : is_expression r.kind ≡ true → (l : LValue) → decoded_by s n r ≡ Ok (Value l) → node_of_lvalue l ≡ n
   unfolding decoded_by
   own-node i l d = sym (ap (node_in n) d) ∙ (
       let low : 20 ≤ r.kind = leb-true _ _ (both (leb 20 r.kind) _ i).0 in
@@ -159,43 +152,41 @@ module _ (s : List ℕ) (n : ℕ) (r : rules.Node) where
       (λ _. chosen (λ d. node_in n d ≡ n) (eqb r.kind 9) (λ e. refl)
       (λ _. own_value))))))))))
 
--- The tags of the cases that are no expression, and of those that are no statement.
-abbrev pub no_expression : List ℕ
-no_expression = 0 ∷ 1 ∷ 2 ∷ 3 ∷ 4 ∷ 5 ∷ 6 ∷ 7 ∷ 8 ∷ 14 ∷ []
+-- A case of expressions that is none of these.
+pub no_expression : (x : Node) → expression_case x ≡ true → ((k : ℕ) → x ≡ Constant k → ⊥) → ((l : LValue) → x ≡ Value l → ⊥) → ((y : ℕ) → x ≡ Size y → ⊥)
+    → ((o a b : ℕ) → x ≡ Binary o a b → ⊥) → ((a : ℕ) → x ≡ Not a → ⊥) → ⊥
+no_expression Empty e nc nv ns nb nn = never e
+no_expression (Update l v o) e nc nv ns nb nn = never e
+no_expression (Swap l m) e nc nv ns nb nn = never e
+no_expression (ConditionalSwap l m c) e nc nv ns nb nn = never e
+no_expression (If c y z) e nc nv ns nb nn = never e
+no_expression (For x a b c) e nc nv ns nb nn = never e
+no_expression (Call p a) e nc nv ns nb nn = never e
+no_expression (Uncall p a) e nc nv ns nb nn = never e
+no_expression (Block x c a) e nc nv ns nb nn = never e
+no_expression (Constant k) e nc nv ns nb nn = nc k refl
+no_expression (Value l) e nc nv ns nb nn = nv l refl
+no_expression (Size x) e nc nv ns nb nn = ns x refl
+no_expression (Binary o a b) e nc nv ns nb nn = nb o a b refl
+no_expression (Not a) e nc nv ns nb nn = nn a refl
+no_expression (Argument l m) e nc nv ns nb nn = never e
 
-abbrev pub no_statement : List ℕ
-no_statement = 9 ∷ 10 ∷ 11 ∷ 12 ∷ 13 ∷ 14 ∷ []
-
-pub not_expression : (x : Node) → expression_case x ≡ true → OneOf no_expression (tag_of the_type x) → ⊥
-not_expression Empty e k = never e
-not_expression (Update l v o) e k = never e
-not_expression (Swap l m) e k = never e
-not_expression (ConditionalSwap l m c) e k = never e
-not_expression (If c y z) e k = never e
-not_expression (For x a b c) e k = never e
-not_expression (Call p a) e k = never e
-not_expression (Uncall p a) e k = never e
-not_expression (Block x c a) e k = never e
-not_expression (Constant c) e k = miss no_expression 9 tt k
-not_expression (Value l) e k = miss no_expression 10 tt k
-not_expression (Size x) e k = miss no_expression 11 tt k
-not_expression (Binary o a b) e k = miss no_expression 12 tt k
-not_expression (Not a) e k = miss no_expression 13 tt k
-not_expression (Argument l m) e k = never e
-
-pub not_statement : (x : Node) → statement_case x ≡ true → OneOf no_statement (tag_of the_type x) → ⊥
-not_statement Empty e k = miss no_statement 0 tt k
-not_statement (Update l v o) e k = miss no_statement 1 tt k
-not_statement (Swap l m) e k = miss no_statement 2 tt k
-not_statement (ConditionalSwap l m c) e k = miss no_statement 3 tt k
-not_statement (If c y z) e k = miss no_statement 4 tt k
-not_statement (For x a b c) e k = miss no_statement 5 tt k
-not_statement (Call p a) e k = miss no_statement 6 tt k
-not_statement (Uncall p a) e k = miss no_statement 7 tt k
-not_statement (Block x c a) e k = miss no_statement 8 tt k
-not_statement (Constant c) e k = never e
-not_statement (Value l) e k = never e
-not_statement (Size x) e k = never e
-not_statement (Binary o a b) e k = never e
-not_statement (Not a) e k = never e
-not_statement (Argument l m) e k = never e
+-- A case of statements that is none of these.
+pub no_statement : (x : Node) → statement_case x ≡ true → (x ≡ Empty → ⊥) → ((l : LValue) (v o : ℕ) → x ≡ Update l v o → ⊥) → ((l m : LValue) → x ≡ Swap l m → ⊥)
+    → ((l m : LValue) (c : ℕ) → x ≡ ConditionalSwap l m c → ⊥) → ((c y z : ℕ) → x ≡ If c y z → ⊥) → ((v a b c : ℕ) → x ≡ For v a b c → ⊥)
+    → ((p a : ℕ) → x ≡ Call p a → ⊥) → ((p a : ℕ) → x ≡ Uncall p a → ⊥) → ((v c a : ℕ) → x ≡ Block v c a → ⊥) → ⊥
+no_statement Empty e ne nu ns nc ni nf na nv nb = ne refl
+no_statement (Update l v o) e ne nu ns nc ni nf na nv nb = nu l v o refl
+no_statement (Swap l m) e ne nu ns nc ni nf na nv nb = ns l m refl
+no_statement (ConditionalSwap l m c) e ne nu ns nc ni nf na nv nb = nc l m c refl
+no_statement (If c y z) e ne nu ns nc ni nf na nv nb = ni c y z refl
+no_statement (For x a b c) e ne nu ns nc ni nf na nv nb = nf x a b c refl
+no_statement (Call p a) e ne nu ns nc ni nf na nv nb = na p a refl
+no_statement (Uncall p a) e ne nu ns nc ni nf na nv nb = nv p a refl
+no_statement (Block x c a) e ne nu ns nc ni nf na nv nb = nb x c a refl
+no_statement (Constant c) e ne nu ns nc ni nf na nv nb = never e
+no_statement (Value l) e ne nu ns nc ni nf na nv nb = never e
+no_statement (Size x) e ne nu ns nc ni nf na nv nb = never e
+no_statement (Binary o a b) e ne nu ns nc ni nf na nv nb = never e
+no_statement (Not a) e ne nu ns nc ni nf na nv nb = never e
+no_statement (Argument l m) e ne nu ns nc ni nf na nv nb = never e

@@ -1,5 +1,5 @@
--- Names as marks: a byte for each of 1,024 variables, not 0 where the name belongs to a list.
-use Rattle.std.specs.Prelude.{ℕ, suc, ◌+◌, ◌-◌, ◌≤◌, ◌<◌, ◌≡◌, List, [], ◌∷◌, ◌++◌, Bool, true, false, not, ◌||◌, eqb, get_or, set, replicate}
+-- Names as marks: one for each of 1,024 variables, which holds where the name belongs to a list.
+use Rattle.std.specs.Prelude.{ℕ, zero, suc, ◌+◌, ◌-◌, ◌≤◌, ◌<◌, ◌≡◌, List, [], ◌∷◌, ◌++◌, Bool, true, false, ◌||◌, eqb, get_or, set, replicate}
 use Rattle.std.proofs.Math.Path.{refl, sym}
 use Rattle.std.proofs.Common.{ap, ◌∙◌, arith, get_or-set_other}
 use borrow.Author.Tests.{eq-eqb, ne_eqb, eqb-true, eqb-false}
@@ -8,17 +8,18 @@ use Rattle.std.proofs.lemmas.List.{get_or-replicate}
 use Rattle.std.proofs.Math.Seq.{get_or-set_same}
 use Rattle.rules.specs.Tree.{member, range}
 use Rattle.rules.specs.Walk.{share, repeats}
+use Rattle.names.specs.declared.marks.Names.{Names}
 
 -- How many names there can be.
 abbrev pub most : ℕ
 most = 1024
 
-unfoldable pub marked : List ℕ → ℕ → Bool
-marked marks x = not (eqb (get_or marks x 0) 0)
+unfoldable pub marked : Names → ℕ → Bool
+marked marks x = get_or marks.marks x false
 
 -- The marks stand for the names of the list.
-pub record Marks (marks names : List ℕ) : Type 0 where
-  pub long : length marks ≡ most
+pub record Marks (marks : Names) (names : List ℕ) : Type 0 where
+  pub long : length marks.marks ≡ most
   pub at : (x : ℕ) → x < most → marked marks x ≡ member x names
 
 -- ---- membership
@@ -37,6 +38,11 @@ or_comm true true = refl
 or_comm true false = refl
 or_comm false true = refl
 or_comm false false = refl
+
+or_front : (a b c : Bool) → (a || (b || c)) ≡ (b || (a || c))
+or_front true true c = refl
+or_front true false c = refl
+or_front false b c = refl
 
 or_swap : (a b c d : Bool) → ((a || b) || (c || d)) ≡ ((a || c) || (b || d))
 or_swap true b c d = refl
@@ -67,10 +73,6 @@ member-regroup x a b d =
 
 -- A name is looked for in a list from its front, one by one or part by part.
 module _ (x : ℕ) where
-  pub member-one : (y : ℕ) → eqb y x ≡ member x (y ∷ [])
-  unfolding member
-  member-one y = eqb_comm y x ∙ sym (or_false (eqb x y))
-
   pub member-here : {y : ℕ} (ys : List ℕ) → y ≡ x → eqb y x ≡ member x (y ∷ ys)
   unfolding member
   member-here {y} ys e = rw (eq-eqb x y (sym e), eq-eqb y x e)
@@ -113,45 +115,46 @@ either_way false p q = q refl
 
 -- ---- marks
 
-pub no_marks : Marks (replicate most 0) []
+pub no_marks : Marks (record { marks = replicate most false }) []
 unfolding marked member
-no_marks = record { long = refl; at = λ x l. rw (get_or-replicate {A = ℕ} most x 0 0 l) }
+no_marks = record { long = refl; at = λ x l. rw (get_or-replicate {A = Bool} most x false false l) }
 
-module _ (marks names : List ℕ) (m : Marks marks names) where
-  marked-set : (x y : ℕ) → x < most → y < most → marked (set marks x 1) y ≡ (eqb y x || member y names)
+-- The marks with one more.
+abbrev pub with_mark : Names → ℕ → Names
+with_mark marks x = record { marks = set marks.marks x true }
+
+module _ (marks : Names) (names : List ℕ) (m : Marks marks names) where
+  marked-set : (x y : ℕ) → x < most → y < most → marked (with_mark marks x) y ≡ (eqb y x || member y names)
   unfolding marked
   marked-set x y lx ly =
-      let inside : x < length marks = rw m.long lx in
+      let inside : x < length marks.marks = rw m.long lx in
       either_way (eqb y x)
-      (λ e. rw (eqb-true y x e, get_or-set_same {A = ℕ} marks x 1 0 inside))
-      (λ e. rw (get_or-set_other {A = ℕ} marks x y 1 0 (eqb-false y x e)) (m.at y ly))
+      (λ e. rw (eqb-true y x e, get_or-set_same {A = Bool} marks.marks x true false inside))
+      (λ e. rw (get_or-set_other {A = Bool} marks.marks x y true false (eqb-false y x e)) (m.at y ly))
 
-  pub mark_one : (x : ℕ) → x < most → Marks (set marks x 1) (x ∷ names)
+  pub mark_one : (x : ℕ) → x < most → Marks (with_mark marks x) (x ∷ names)
   unfolding member
-  mark_one x l = record { long = length-set marks x 1 ∙ m.long; at = λ y k. marked-set x y l k }
+  mark_one x l = record { long = length-set marks.marks x true ∙ m.long; at = λ y k. marked-set x y l k }
 
   -- Other names with the same members.
   pub same-marks : (others : List ℕ) → ((x : ℕ) → member x names ≡ member x others) → Marks marks others
   same-marks others e = record { long = m.long; at = λ x l. m.at x l ∙ e x }
 
-  pub marked-member : (x : ℕ) → x < most → marked marks x ≡ member x names
-  marked-member x l = m.at x l
-
 -- The marks afterwards stand for these names too.
-pub record Adds (before after names : List ℕ) : Type 0 where
+pub record Adds (before after : Names) (names : List ℕ) : Type 0 where
   pub over : (Γ : List ℕ) → Marks before Γ → Marks after (names ++ Γ)
 
 -- An answer tells whether a name is among those that the marks stand for.
-abbrev pub Tells : List ℕ → ℕ → Bool → Type 0
+abbrev pub Tells : Names → ℕ → Bool → Type 0
 Tells marks x r = (Γ : List ℕ) → Marks marks Γ → x < most → r ≡ member x Γ
 
-pub adds_none : (marks : List ℕ) → Adds marks marks []
+pub adds_none : (marks : Names) → Adds marks marks []
 adds_none marks = record { over = λ Γ m. m }
 
-pub adds_one : (marks : List ℕ) (x : ℕ) → x < most → Adds marks (set marks x 1) (x ∷ [])
+pub adds_one : (marks : Names) (x : ℕ) → x < most → Adds marks (with_mark marks x) (x ∷ [])
 adds_one marks x l = record { over = λ Γ m. mark_one marks Γ m x l }
 
-module _ {before between after : List ℕ} where
+module _ {before between after : Names} where
   pub adds_both : {a b : List ℕ} → Adds before between a → Adds between after b → Adds before after (a ++ b)
   adds_both {a} {b} f g =
       record { over = λ Γ m. same-marks after (b ++ (a ++ Γ)) (g.over (a ++ Γ) (f.over Γ m)) ((a ++ b) ++ Γ) (λ x. member-regroup x a b Γ) }
@@ -159,33 +162,37 @@ module _ {before between after : List ℕ} where
   pub adds_first : {x : ℕ} {b : List ℕ} → Adds before between (x ∷ []) → Adds between after b → Adds before after (x ∷ b)
   adds_first {x} {b} f g = adds_both f g
 
-  -- One more name in front of a range.
-  adds_front : (x count : ℕ) → Adds before between (range (suc x) count) → Adds between after (x ∷ []) → Adds before after (range x (suc count))
-  unfolding range
-  adds_front x count f g = record { over = λ Γ m. g.over _ (f.over Γ m) }
+-- A range and the name behind it.
+range-more : (x count : ℕ) (y : ℕ) → member y (range x (suc count)) ≡ (eqb y (x + count) || member y (range x count))
+unfolding member range
+range-more x zero y = let e : x + 0 ≡ x = omega arith in rw e
+range-more x (suc count) y =
+    let e : suc x + count ≡ x + suc count = omega arith in
+    rw (range-more (suc x) count y, e) (or_front (eqb y x) (eqb y (x + suc count)) (member y (range (suc x) count)))
 
-  -- What is marked from x + left on, with one more in front; none at first, all at last.
-  pub range-more : (x count left : ℕ) → 0 < left → left ≤ count
-      → Adds before between (range (x + left) (count - left)) → Adds between after ((x + (left - 1)) ∷ []) → Adds before after (range (x + (left - 1)) (count - (left - 1)))
-  range-more x count left l k f g =
-      let e : count - (left - 1) ≡ suc (count - left) = omega arith in
-      let i : x + left ≡ suc (x + (left - 1)) = omega arith in
-      rw e (adds_front (x + (left - 1)) (count - left) (rw i at f) g)
+-- What is marked from x up to y, with y too; none at first, all at last.
+pub adds_behind : {before between after : Names} (x y : ℕ) → x ≤ y
+    → Adds before between (range x (y - x)) → Adds between after (y ∷ []) → Adds before after (range x (y + 1 - x))
+unfolding member
+adds_behind {before} {between} {after} x y l f g = record {
+  over = λ Γ m.
+      same-marks after (y ∷ (range x (y - x) ++ Γ)) (g.over (range x (y - x) ++ Γ) (f.over Γ m)) (range x (y + 1 - x) ++ Γ)
+      (λ z.
+      let e : y + 1 - x ≡ suc (y - x) = omega arith in
+      let k : x + (y - x) ≡ y = omega arith in
+      rw (member-append z (range x (y - x)) Γ, member-append z (range x (y + 1 - x)) Γ, e, range-more x (y - x) z, k)
+      (sym (or_assoc (eqb z y) (member z (range x (y - x))) (member z Γ))));
+}
 
-pub range_none : (marks : List ℕ) (x count : ℕ) → Adds marks marks (range (x + count) (count - count))
+pub range_none : (marks : Names) (x : ℕ) → Adds marks marks (range x (x - x))
 unfolding range
-range_none marks x count = let e : count - count ≡ 0 = omega arith in rw e (adds_none marks)
-
-pub range_all : (before after : List ℕ) (x count left : ℕ) → left ≤ 0 → Adds before after (range (x + left) (count - left)) → Adds before after (range x count)
-range_all before after x count left l f =
-    let e : left ≡ 0 = omega arith in let k : x + 0 ≡ x = omega arith in let j : count - 0 ≡ count = omega arith in
-    rw (e, k, j) at f
+range_none marks x = let e : x - x ≡ 0 = omega arith in rw e (adds_none marks)
 
 -- Whether one of the names is among those that the marks stand for.
-pub record Touches (marks names : List ℕ) (r : Bool) : Type 0 where
+pub record Touches (marks : Names) (names : List ℕ) (r : Bool) : Type 0 where
   pub over : (Γ : List ℕ) → Marks marks Γ → r ≡ share names Γ
 
-module _ {marks : List ℕ} where
+module _ {marks : Names} where
   pub touches_none : Touches marks [] false
   unfolding share
   touches_none = record { over = λ Γ m. refl }
@@ -205,7 +212,7 @@ module _ {marks : List ℕ} where
   touches_right {a} {b} f e g = record { over = λ Γ m. rw (share-append a b Γ, ← f.over Γ m, e) (g.over Γ m) }
 
 -- Whether one of the names comes twice, or is marked already.
-pub record Repeats (marks names : List ℕ) (r : Bool) : Type 0 where
+pub record Repeats (marks : Names) (names : List ℕ) (r : Bool) : Type 0 where
   pub over : (Γ : List ℕ) → Marks marks Γ → r ≡ (repeats names || share names Γ)
 
 or_true : (a : Bool) → (a || true) ≡ true
@@ -216,7 +223,7 @@ or_later : (a b c : Bool) → (b || (a || c)) ≡ ((a || b) || c)
 or_later true b c = or_true b
 or_later false b c = refl
 
-module _ {marks : List ℕ} where
+module _ {marks : Names} where
   pub repeats-none : Repeats marks [] false
   unfolding share repeats
   repeats-none = record { over = λ Γ m. refl }
@@ -225,7 +232,7 @@ module _ {marks : List ℕ} where
   unfolding share
   repeats-here {x} {xs} l t e = record { over = λ Γ m. rw (← t Γ m l, e) (sym (or_true (repeats (x ∷ xs)))) }
 
-  pub repeats-later : {after : List ℕ} {x : ℕ} {xs : List ℕ} {r t : Bool} → x < most → Tells marks x t → t ≡ false
+  pub repeats-later : {after : Names} {x : ℕ} {xs : List ℕ} {r t : Bool} → x < most → Tells marks x t → t ≡ false
       → Adds marks after (x ∷ []) → Repeats after xs r → Repeats marks (x ∷ xs) r
   unfolding share repeats
   repeats-later {after} {x} {xs} l t e f g = record {
@@ -236,12 +243,12 @@ module _ {marks : List ℕ} where
   pub repeats-alone : {names : List ℕ} {r : Bool} → Marks marks [] → Repeats marks names r → r ≡ repeats names
   repeats-alone {names} m f = f.over [] m ∙ rw (share-none names) (or_false (repeats names))
 
-pub adds_alone : {before after names : List ℕ} → Marks before [] → Adds before after names → Marks after names
+pub adds_alone : {before after : Names} {names : List ℕ} → Marks before [] → Adds before after names → Marks after names
 unfolding member
 adds_alone {before} {after} {names} m f =
     same-marks after (names ++ []) (f.over [] m) names (λ x. member-append x names [] ∙ or_false (member x names))
 
-module _ {marks : List ℕ} where
+module _ {marks : Names} where
   pub touches_one : {x : ℕ} {r : Bool} → x < most → Tells marks x r → Touches marks (x ∷ []) r
   unfolding share
   touches_one {x} l t = record { over = λ Γ m. t Γ m l ∙ sym (or_false (member x Γ)) }
@@ -252,9 +259,9 @@ module _ {marks : List ℕ} where
 
 -- 11 of a call: two roots that are one, or a root that is in an index.
 module _ {names : List ℕ} (others : List ℕ) where
-  pub clash_twice : {marks : List ℕ} {r : Bool} → Marks marks [] → Repeats marks names r → r ≡ true → true ≡ (repeats names || share names others)
+  pub clash_twice : {marks : Names} {r : Bool} → Marks marks [] → Repeats marks names r → r ≡ true → true ≡ (repeats names || share names others)
   clash_twice m f e = rw (← repeats-alone m f, e)
 
-  pub clash_index : {marks before after : List ℕ} {r t : Bool} → Marks marks [] → Repeats marks names t → t ≡ false
+  pub clash_index : {marks before after : Names} {r t : Bool} → Marks marks [] → Repeats marks names t → t ≡ false
       → Marks before [] → Adds before after others → Touches after names r → r ≡ (repeats names || share names others)
   clash_index m f e k g u = rw (← repeats-alone m f, e) (u.over others (adds_alone k g))

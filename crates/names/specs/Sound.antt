@@ -1,5 +1,5 @@
 -- What an accepted form gives the walk: a node stands in it, and so does what the node refers to.
-use Rattle.std.specs.Prelude.{ℕ, ◌+◌, ◌≤◌, ◌<◌, ◌≡◌, List, Bool, true, ◌⊎◌}
+use Rattle.std.specs.Prelude.{ℕ, ◌+◌, ◌≤◌, ◌<◌, ◌≡◌, List, Bool, true, ◌⊎◌, Ok, Err}
 use Rattle.std.proofs.Common.{subst, arith}
 use Rattle.rules.specs.Image.{missing, Header, Parts, procedure_of, node_of, is_statement, is_expression, is_lvalue}
 use Rattle.rules.specs.Form.{record_fits}
@@ -7,16 +7,11 @@ use Rattle.rules.specs.Tree as tree
 use Rattle.rules.specs.Tree.{reading_at}
 use Rattle.records.specs.Fits.{Child}
 use Rattle.records.specs.Decode.{decoded_at}
-use Rattle.records.specs.Cases.{Means, Refers, Named, Understood, node_of_lvalue}
+use Rattle.records.specs.Cases.{Means, Refers, Understood}
 use Rattle.records.specs.Understood.{understood_at}
-use types.Run.{OneOf}
-use denote.Enum.Declared.{tag_of}
-use Rattle.names.specs.Class.{Classed, statement_case_lem, expression_case_lem, no_statement, no_expression, not_statement, not_expression, own-node}
-use Rattle.records.specs.declared.LValue.{LValue}
+use Rattle.names.specs.Class.{Classed, statement_case, expression_case, statement_case_lem, expression_case_lem}
+use Rattle.records.specs.declared.refusal.Refusal.{Refusal}
 use Rattle.records.specs.declared.Node.{Node}
-use Rattle.records.specs.declared.Node.TheVariants.{Value}
-use Rattle.records.specs.contracts.Node.{the_type}
-use Rattle.records.specs.declared.Decoded.TheVariants.{Is, Refused}
 
 pub record Sound (h : Header) (s : Parts) : Type 0 where
   pub few : h.nodes ≤ 4096
@@ -45,14 +40,14 @@ module _ {class : ℕ → Bool} {nodes : List ℕ} {h : Header} {s : Parts} {n :
   pub understood : Understood h s n (decoded_at nodes n)
   understood = subst (λ (l : List ℕ). Understood h s n (decoded_at l n)) st.own (understood_at h s small st.sound.fit n st.inside)
 
-  module _ {x : Node} (d : decoded_at nodes n ≡ Is x) where
+  module _ {x : Node} (d : decoded_at nodes n ≡ Ok x) where
     pub means : Means h s n x
     means = (rw d at understood).0
 
     pub refers : Refers h s n x
     refers = (rw d at understood).1
 
-  pub never_refused : {number place : ℕ} → decoded_at nodes n ≡ Refused number place → ⊥
+  pub never_refused : {r : Refusal} → decoded_at nodes n ≡ Err r → ⊥
   never_refused d = rw d at understood
 
   pub name_small : {x : ℕ} → x < h.variables → x < 1024
@@ -62,7 +57,7 @@ module _ {class : ℕ → Bool} {nodes : List ℕ} {h : Header} {s : Parts} {n :
   pub standing_child : {class' : ℕ → Bool} {k m : ℕ} → Child h s.nodes k class' m → Standing class' nodes h s m
   standing_child {class'} {k} {m} c = record { sound = st.sound; own = st.own; inside = c.inside; classed = subst (λ (l : List ℕ). class' (node_of l m).kind ≡ true) st.own c.classed }
 
-module _ {class : ℕ → Bool} {nodes : List ℕ} {n : ℕ} (k : Known class nodes n) {x : Node} (d : decoded_at nodes n ≡ Is x)
+module _ {class : ℕ → Bool} {nodes : List ℕ} {n : ℕ} (k : Known class nodes n) {x : Node} (d : decoded_at nodes n ≡ Ok x)
     {class' : ℕ → Bool} {m : ℕ} (which : (h : Header) (s : Parts) → Refers h s n x → Child h s.nodes n class' m) where
   chosen_child : Child k.header k.parts.nodes n class' m
   chosen_child = which k.header k.parts (refers k.standing d)
@@ -74,27 +69,13 @@ module _ {class : ℕ → Bool} {nodes : List ℕ} {n : ℕ} (k : Known class no
   pub behind : (n < m) × (m < 4096)
   behind = let f = k.standing.sound.few in let c = chosen_child in (c.behind, omega arith)
 
--- The same of the index of an L-value that is read as a value.
-module _ {nodes : List ℕ} {n : ℕ} (k : Known is_expression nodes n) {l : LValue} (d : decoded_at nodes n ≡ Is (Value l)) {m : ℕ}
-    (which : (h : Header) (s : Parts) → Named h s l → Child h s.nodes (node_of_lvalue l) is_expression m) where
-  chosen_index : Child k.header k.parts.nodes n is_expression m
-  chosen_index =
-      subst (λ (a : ℕ). Child k.header k.parts.nodes a is_expression m) (own-node nodes n (node_of nodes n) k.standing.classed l d)
-      (which k.header k.parts (refers k.standing d))
+-- Its case is of its class.
+module _ {nodes : List ℕ} {h : Header} {s : Parts} {n : ℕ} {x : Node} (d : decoded_at nodes n ≡ Ok x) where
+  pub expression-classed : Standing is_expression nodes h s n → expression_case x ≡ true
+  expression-classed st = Classed.is (rw d at (expression_case_lem nodes n (node_of nodes n) st.classed))
 
-  pub known_index : Known is_expression nodes m
-  known_index = record { header = k.header; parts = k.parts; standing = standing_child k.standing chosen_index }
-
-  pub behind_index : (n < m) × (m < 4096)
-  behind_index = let f = k.standing.sound.few in let c = chosen_index in (c.behind, omega arith)
-
--- The arms of the other class are never taken.
-module _ {nodes : List ℕ} {h : Header} {s : Parts} {n : ℕ} {x : Node} (d : decoded_at nodes n ≡ Is x) where
-  pub no_statement-arm : Standing is_expression nodes h s n → OneOf no_expression (tag_of the_type x) → ⊥
-  no_statement-arm st k = not_expression x (Classed.is (rw d at (expression_case_lem nodes n (node_of nodes n) st.classed))) k
-
-  pub no_expression-arm : Standing is_statement nodes h s n → OneOf no_statement (tag_of the_type x) → ⊥
-  no_expression-arm st k = not_statement x (Classed.is (rw d at (statement_case_lem nodes n (node_of nodes n) st.classed))) k
+  pub statement-classed : Standing is_statement nodes h s n → statement_case x ≡ true
+  statement-classed st = Classed.is (rw d at (statement_case_lem nodes n (node_of nodes n) st.classed))
 
 -- A chain from node n on: it is missing, or its first node stands.
 pub record Chain (class : ℕ → Bool) (nodes : List ℕ) (h : Header) (s : Parts) (n : ℕ) : Type 0 where

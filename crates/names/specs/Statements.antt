@@ -1,16 +1,16 @@
 -- What a statement changes, by the case of its node.
-use Rattle.std.specs.Prelude.{ℕ, ◌<◌, ◌≡◌, List, [], ◌∷◌, ◌++◌, Bool, ◌⊎◌}
-use Rattle.std.proofs.Common.{inl, inr, ⊎_elim, arith}
-use Rattle.rules.specs.Image.{missing, Header, Parts, node_of, is_statement}
+use Rattle.std.specs.Prelude.{ℕ, ◌<◌, ◌≡◌, refl, List, [], ◌∷◌, ◌++◌, Bool, ◌⊎◌, Ok}
+use Rattle.std.proofs.Common.{ap, ◌∙◌, inl, inr, ⊎_elim, arith}
+use Rattle.rules.specs.Image.{missing, Header, Parts, node_of, is_statement, is_lvalue}
 use Rattle.rules.specs.Tree.{reading_at, roots, changed}
+use Rattle.records.specs.Truth.{never}
 use Rattle.records.specs.Decode.{decoded_at}
 use Rattle.records.specs.Fits.{Child}
 use Rattle.records.specs.Cases.{Refers, Targeted}
 use Rattle.records.specs.declared.LValue.{LValue}
 use Rattle.records.specs.declared.Node.{Node}
-use Rattle.records.specs.declared.Node.TheVariants.{Empty, Update, Swap, ConditionalSwap, If, For, Call, Uncall, Block}
-use Rattle.records.specs.declared.Decoded.TheVariants.{Is}
-use Rattle.names.specs.Sound.{Standing, Known, Chain, KnownChain, means, refers, standing_child}
+use Rattle.records.specs.declared.Node.TheVariants.{Empty, Update, Swap, ConditionalSwap, If, For, Call, Uncall, Block, Constant, Value, Size, Binary, Not, Argument}
+use Rattle.names.specs.Sound.{Standing, Known, Chain, KnownChain, means, refers, standing_child, statement-classed}
 use Rattle.names.specs.Chains.{Naming, KnownNaming, root_of, root-place, no_statements, first_statement_lem}
 
 module _ {class : ℕ → Bool} {nodes : List ℕ} {h : Header} {s : Parts} {n : ℕ} (st : Standing class nodes h s n) where
@@ -21,7 +21,7 @@ module _ {class : ℕ → Bool} {nodes : List ℕ} {h : Header} {s : Parts} {n :
   pub begun : {class' : ℕ → Bool} {m : ℕ} → (m ≡ missing) ⊎ Child h s.nodes n class' m → Chain class' nodes h s m
   begun o = record { sound = st.sound; own = st.own; here = ⊎_elim (λ e. inl e) (λ c. inr (standing_child st c)) o }
 
-module _ {class : ℕ → Bool} {nodes : List ℕ} {n : ℕ} (k : Known class nodes n) {x : Node} (d : decoded_at nodes n ≡ Is x) where
+module _ {class : ℕ → Bool} {nodes : List ℕ} {n : ℕ} (k : Known class nodes n) {x : Node} (d : decoded_at nodes n ≡ Ok x) where
   pub known_target : {l : LValue} → ((h : Header) (s : Parts) → Refers h s n x → Targeted h s n l) → KnownNaming nodes l
   known_target which =
       record { header = k.header; parts = k.parts; naming = target_naming k.standing (which k.header k.parts (refers k.standing d)) }
@@ -37,56 +37,57 @@ module _ {class : ℕ → Bool} {nodes : List ℕ} {n : ℕ} (k : Known class no
 
 -- The targets of a statement, by its case.
 module _ {class : ℕ → Bool} {nodes : List ℕ} {h : Header} {s : Parts} {n : ℕ} (st : Standing class nodes h s n) where
-  pub update_target : {o v : ℕ} {l : LValue} → decoded_at nodes n ≡ Is (Update l v o) → Naming nodes h s l
+  pub update_target : {o v : ℕ} {l : LValue} → decoded_at nodes n ≡ Ok (Update l v o) → Naming nodes h s l
   update_target {l = l} d = target_naming st {l = l} (refers st d).0
 
-  pub swap_left : {l m : LValue} → decoded_at nodes n ≡ Is (Swap l m) → Naming nodes h s l
+  pub swap_left : {l m : LValue} → decoded_at nodes n ≡ Ok (Swap l m) → Naming nodes h s l
   swap_left {l} d = target_naming st {l = l} (refers st d).0
 
-  pub swap_right : {l m : LValue} → decoded_at nodes n ≡ Is (Swap l m) → Naming nodes h s m
+  pub swap_right : {l m : LValue} → decoded_at nodes n ≡ Ok (Swap l m) → Naming nodes h s m
   swap_right {l} {m} d = target_naming st {l = m} (refers st d).1
 
-  pub conditional_left : {e : ℕ} {l m : LValue} → decoded_at nodes n ≡ Is (ConditionalSwap l m e) → Naming nodes h s l
+  pub conditional_left : {e : ℕ} {l m : LValue} → decoded_at nodes n ≡ Ok (ConditionalSwap l m e) → Naming nodes h s l
   conditional_left {e} {l} d = target_naming st {l = l} (refers st d).1.0
 
-  pub conditional_right : {e : ℕ} {l m : LValue} → decoded_at nodes n ≡ Is (ConditionalSwap l m e) → Naming nodes h s m
+  pub conditional_right : {e : ℕ} {l m : LValue} → decoded_at nodes n ≡ Ok (ConditionalSwap l m e) → Naming nodes h s m
   conditional_right {e} {l} {m} d = target_naming st {l = m} (refers st d).1.1
 
 module _ {nodes : List ℕ} {h : Header} {s : Parts} {n : ℕ} (st : Standing is_statement nodes h s n) where
-  pub changed-empty : decoded_at nodes n ≡ Is Empty → changed (reading_at h s n).as_stmt ≡ []
+  -- The empty statement changes nothing.
+  pub changed-nothing : (x : Node) → decoded_at nodes n ≡ Ok x → ((l : LValue) (v o : ℕ) → x ≡ Update l v o → ⊥) → ((l m : LValue) → x ≡ Swap l m → ⊥)
+      → ((l m : LValue) (c : ℕ) → x ≡ ConditionalSwap l m c → ⊥) → ((c y z : ℕ) → x ≡ If c y z → ⊥) → ((v a b c : ℕ) → x ≡ For v a b c → ⊥)
+      → ((p a : ℕ) → x ≡ Call p a → ⊥) → ((p a : ℕ) → x ≡ Uncall p a → ⊥) → ((v c a : ℕ) → x ≡ Block v c a → ⊥) → changed (reading_at h s n).as_stmt ≡ []
   unfolding changed
-  changed-empty d = rw (means st d)
+  changed-nothing Empty d nu ns nc ni nf na nv nb = rw (means st d)
+  changed-nothing (Update l v o) d nu ns nc ni nf na nv nb = absurd (nu l v o refl)
+  changed-nothing (Swap l m) d nu ns nc ni nf na nv nb = absurd (ns l m refl)
+  changed-nothing (ConditionalSwap l m c) d nu ns nc ni nf na nv nb = absurd (nc l m c refl)
+  changed-nothing (If c y z) d nu ns nc ni nf na nv nb = absurd (ni c y z refl)
+  changed-nothing (For x a b c) d nu ns nc ni nf na nv nb = absurd (nf x a b c refl)
+  changed-nothing (Call p a) d nu ns nc ni nf na nv nb = absurd (na p a refl)
+  changed-nothing (Uncall p a) d nu ns nc ni nf na nv nb = absurd (nv p a refl)
+  changed-nothing (Block x c a) d nu ns nc ni nf na nv nb = absurd (nb x c a refl)
+  changed-nothing (Constant k) d nu ns nc ni nf na nv nb = absurd (never (statement-classed d st))
+  changed-nothing (Value l) d nu ns nc ni nf na nv nb = absurd (never (statement-classed d st))
+  changed-nothing (Size x) d nu ns nc ni nf na nv nb = absurd (never (statement-classed d st))
+  changed-nothing (Binary o a b) d nu ns nc ni nf na nv nb = absurd (never (statement-classed d st))
+  changed-nothing (Not a) d nu ns nc ni nf na nv nb = absurd (never (statement-classed d st))
+  changed-nothing (Argument l m) d nu ns nc ni nf na nv nb = absurd (never (statement-classed d st))
 
-  pub changed-update : {o v : ℕ} {l : LValue} → decoded_at nodes n ≡ Is (Update l v o) → changed (reading_at h s n).as_stmt ≡ root_of l ∷ []
+  pub changed-update : {o v : ℕ} {l : LValue} → decoded_at nodes n ≡ Ok (Update l v o) → changed (reading_at h s n).as_stmt ≡ root_of l ∷ []
   unfolding changed
   changed-update {l = l} d = rw (means st d, root-place h s l)
 
-  pub changed-swap : {l m : LValue} → decoded_at nodes n ≡ Is (Swap l m) → changed (reading_at h s n).as_stmt ≡ root_of l ∷ root_of m ∷ []
-  unfolding changed
-  changed-swap {l} {m} d = rw (means st d, root-place h s l, root-place h s m)
-
-  pub changed-conditional : {e : ℕ} {l m : LValue} → decoded_at nodes n ≡ Is (ConditionalSwap l m e) → changed (reading_at h s n).as_stmt ≡ root_of l ∷ root_of m ∷ []
-  unfolding changed
-  changed-conditional {e} {l} {m} d = rw (means st d, root-place h s l, root-place h s m)
-
-  pub changed-if : {e y z : ℕ} → decoded_at nodes n ≡ Is (If e y z)
+  pub changed-if : {e y z : ℕ} → decoded_at nodes n ≡ Ok (If e y z)
       → changed (reading_at h s n).as_stmt ≡ changed (reading_at h s y).as_stmt ++ changed (reading_at h s z).as_stmt
   unfolding changed
   changed-if d = rw (means st d)
 
-  pub changed-for : {x a b c : ℕ} → decoded_at nodes n ≡ Is (For x a b c) → changed (reading_at h s n).as_stmt ≡ changed (reading_at h s c).as_stmt
+  pub changed-for : {x a b c : ℕ} → decoded_at nodes n ≡ Ok (For x a b c) → changed (reading_at h s n).as_stmt ≡ changed (reading_at h s c).as_stmt
   unfolding changed
   changed-for d = rw (means st d)
 
-  pub changed-call : {p a : ℕ} → decoded_at nodes n ≡ Is (Call p a) → changed (reading_at h s n).as_stmt ≡ roots (reading_at h s a).as_arguments
-  unfolding changed
-  changed-call d = rw (means st d)
-
-  pub changed-uncall : {p a : ℕ} → decoded_at nodes n ≡ Is (Uncall p a) → changed (reading_at h s n).as_stmt ≡ roots (reading_at h s a).as_arguments
-  unfolding changed
-  changed-uncall d = rw (means st d)
-
-  pub changed_block : {x c a : ℕ} → decoded_at nodes n ≡ Is (Block x c a) → changed (reading_at h s n).as_stmt ≡ changed (reading_at h s a).as_stmts
+  pub changed_block : {x c a : ℕ} → decoded_at nodes n ≡ Ok (Block x c a) → changed (reading_at h s n).as_stmt ≡ changed (reading_at h s a).as_stmts
   unfolding changed
   changed_block d = rw (means st d)
 
@@ -98,3 +99,60 @@ module _ {nodes : List ℕ} {h : Header} {s : Parts} {n : ℕ} (st : Standing is
 pub changed-none : {nodes : List ℕ} {h : Header} {s : Parts} {n : ℕ} → Chain is_statement nodes h s n → n ≡ missing → changed (reading_at h s n).as_stmts ≡ []
 unfolding changed
 changed-none k e = rw (no_statements k e)
+
+-- ---- cases that are matched together
+
+-- A call or an uncall, with these arguments.
+abbrev pub Calls : Node → ℕ → Type 0
+Calls x a = ((p : ℕ) × (x ≡ Call p a)) ⊎ ((p : ℕ) × (x ≡ Uncall p a))
+
+-- A swap or a conditional swap, of these targets.
+abbrev pub Swaps : Node → LValue → LValue → Type 0
+Swaps x l m = (x ≡ Swap l m) ⊎ ((e : ℕ) × (x ≡ ConditionalSwap l m e))
+
+pub known_call : {nodes : List ℕ} {n a : ℕ} {x : Node} → Known is_statement nodes n → decoded_at nodes n ≡ Ok x → Calls x a → KnownChain is_lvalue nodes a
+known_call k d o = ⊎_elim (λ c. known_begun k (d ∙ ap Ok c.1) (λ h s r. r.1)) (λ c. known_begun k (d ∙ ap Ok c.1) (λ h s r. r.1)) o
+
+module _ {nodes : List ℕ} {h : Header} {s : Parts} {n : ℕ} (st : Standing is_statement nodes h s n) where
+  changed-forward : {p a : ℕ} → decoded_at nodes n ≡ Ok (Call p a) → changed (reading_at h s n).as_stmt ≡ roots (reading_at h s a).as_arguments
+  unfolding changed
+  changed-forward d = rw (means st d)
+
+  changed-back : {p a : ℕ} → decoded_at nodes n ≡ Ok (Uncall p a) → changed (reading_at h s n).as_stmt ≡ roots (reading_at h s a).as_arguments
+  unfolding changed
+  changed-back d = rw (means st d)
+
+  changed-plain : {l m : LValue} → decoded_at nodes n ≡ Ok (Swap l m) → changed (reading_at h s n).as_stmt ≡ root_of l ∷ root_of m ∷ []
+  unfolding changed
+  changed-plain {l} {m} d = rw (means st d, root-place h s l, root-place h s m)
+
+  changed-conditional : {e : ℕ} {l m : LValue} → decoded_at nodes n ≡ Ok (ConditionalSwap l m e) → changed (reading_at h s n).as_stmt ≡ root_of l ∷ root_of m ∷ []
+  unfolding changed
+  changed-conditional {e} {l} {m} d = rw (means st d, root-place h s l, root-place h s m)
+
+  module _ {x : Node} (d : decoded_at nodes n ≡ Ok x) where
+    pub call_arguments : {a : ℕ} → Calls x a → Chain is_lvalue nodes h s a
+    call_arguments {a} o =
+        ⊎_elim
+        (λ (c : (p : ℕ) × (x ≡ Call p a)). begun st (refers st {x = Call c.0 a} (d ∙ ap Ok c.1)).1)
+        (λ (c : (p : ℕ) × (x ≡ Uncall p a)). begun st (refers st {x = Uncall c.0 a} (d ∙ ap Ok c.1)).1) o
+
+    pub changed-call : {a : ℕ} → Calls x a → changed (reading_at h s n).as_stmt ≡ roots (reading_at h s a).as_arguments
+    changed-call {a} o =
+        ⊎_elim
+        (λ (c : (p : ℕ) × (x ≡ Call p a)). changed-forward (d ∙ ap Ok c.1))
+        (λ (c : (p : ℕ) × (x ≡ Uncall p a)). changed-back (d ∙ ap Ok c.1)) o
+
+    module _ {l m : LValue} (o : Swaps x l m) where
+      pub swapped : Naming nodes h s l × Naming nodes h s m
+      swapped =
+          ⊎_elim
+          (λ (c : x ≡ Swap l m). let r = refers st (d ∙ ap Ok c) in (target_naming st {l = l} r.0, target_naming st {l = m} r.1))
+          (λ (c : (e : ℕ) × (x ≡ ConditionalSwap l m e)).
+          let r = refers st {x = ConditionalSwap l m c.0} (d ∙ ap Ok c.1) in (target_naming st {l = l} r.1.0, target_naming st {l = m} r.1.1)) o
+
+      pub changed-swap : changed (reading_at h s n).as_stmt ≡ root_of l ∷ root_of m ∷ []
+      changed-swap =
+          ⊎_elim
+          (λ (c : x ≡ Swap l m). changed-plain (d ∙ ap Ok c))
+          (λ (c : (e : ℕ) × (x ≡ ConditionalSwap l m e)). changed-conditional (d ∙ ap Ok c.1)) o

@@ -1,16 +1,16 @@
 -- What each case of a decoded node means as a tree, and what its fields refer to.
-use Rattle.std.specs.Prelude.{ℕ, ◌+◌, ◌≤◌, ◌<◌, ◌≡◌, ◌∷◌, true, false, cond, ◌⊎◌}
+use Rattle.std.specs.Prelude.{ℕ, ◌+◌, ◌≤◌, ◌<◌, ◌≡◌, ◌∷◌, true, false, cond, ◌⊎◌, Ok, Err}
 use Rattle.rules.specs.Words.{forward, inverse, update_of, binary_of, complement}
 use Rattle.rules.specs.Image.{missing, Header, Parts, variable_of, is_constant, constant_of, is_statement, is_expression, is_lvalue}
 use Rattle.rules.specs.Tree as tree
 use Rattle.rules.specs.Tree.{reading_at, range}
 use Rattle.records.specs.Fits.{Child}
+pub use Rattle.records.specs.LValues.{node_of_lvalue}
 use Rattle.records.specs.declared.LValue.{LValue}
 use Rattle.records.specs.declared.LValue.TheVariants.{Variable, Element, Unsafe}
 use Rattle.records.specs.declared.Node.{Node}
 use Rattle.records.specs.declared.Node.TheVariants.{Empty, Update, Swap, ConditionalSwap, If, For, Call, Uncall, Block, Constant, Value, Size, Binary, Not, Argument}
-use Rattle.records.specs.declared.Decoded.{Decoded}
-use Rattle.records.specs.declared.Decoded.TheVariants.{Is, Refused}
+use Rattle.records.specs.Decode.{Decoded}
 
 -- An L-value as a place of the tree, and as a value.
 abbrev pub place_of : Header → Parts → LValue → tree.LValue
@@ -23,12 +23,6 @@ value_of h s (Variable n x) =
     cond (is_constant (variable_of s.variables x)) (tree.constant n x (constant_of s.constants (variable_of s.variables x).extra)) (tree.variable n x)
 value_of h s (Element n x i) = tree.element n false x (reading_at h s i).as_expr
 value_of h s (Unsafe n x i) = tree.element n true x (reading_at h s i).as_expr
-
--- The node of an L-value.
-abbrev pub node_of_lvalue : LValue → ℕ
-node_of_lvalue (Variable n x) = n
-node_of_lvalue (Element n x i) = n
-node_of_lvalue (Unsafe n x i) = n
 
 -- What node n is read as, by its case.
 abbrev pub Means : Header → Parts → ℕ → Node → Type 0
@@ -79,5 +73,5 @@ Refers h s n (Argument l m) = Named h s l × ((m ≡ missing) ⊎ Child h s.node
 
 -- A decoded node says what it means and what it refers to; it is never refused.
 abbrev pub Understood : Header → Parts → ℕ → Decoded → Type 0
-Understood h s n (Is x) = Means h s n x × Refers h s n x
-Understood h s n (Refused number place) = ⊥
+Understood h s n (Ok x) = Means h s n x × Refers h s n x
+Understood h s n (Err r) = ⊥

@@ -1,8 +1,13 @@
+pub mod Refusals
 pub mod Records
+pub mod Parts
+pub mod Fields
 pub mod Decode
 pub mod Expressions
 pub mod Truth
 pub mod Fits
 pub mod Reading
+pub mod LValues
 pub mod Cases
 pub mod Understood
+pub mod Slots

@@ -1,12 +1,9 @@
 -- The code's records as those of the rules.
 use Rattle.rules.specs.Image as rules
-use Rattle.rules.specs.Form as verdict
-use Rattle.records.specs.declared.Verdict.{Verdict}
 use Rattle.records.specs.declared.Header.{Header}
 use Rattle.records.specs.declared.Procedure.{Procedure}
 use Rattle.records.specs.declared.Variable.{Variable}
 use Rattle.records.specs.declared.RawNode.{RawNode}
-use Rattle.records.specs.declared.Head.{Head}
 
 abbrev pub as_header : Header → rules.Header
 as_header h = record {
@@ -34,9 +31,3 @@ as_node r = record { kind = r.kind; operator = r.operator; a = r.a; b = r.b; c =
 -- An expression or L-value has a kind, an operator, a and b: the rest of its record is not read.
 abbrev pub headed : rules.Node → rules.Node
 headed r = record { kind = r.kind; operator = r.operator; a = r.a; b = r.b; c = 0; d = 0; next = 0 }
-
-abbrev pub as_head : Head → rules.Node
-as_head r = record { kind = r.kind; operator = r.operator; a = r.a; b = r.b; c = 0; d = 0; next = 0 }
-
-abbrev pub as_verdict : Verdict → verdict.Verdict
-as_verdict v = record { number = v.number; place = v.place }

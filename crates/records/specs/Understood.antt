@@ -1,5 +1,5 @@
 -- In an image whose node records fit, every node is understood: the case that it is decoded into says what it is read as and what it refers to.
-use Rattle.std.specs.Prelude.{ℕ, ◌+◌, ◌≤◌, ◌<◌, ◌≡◌, refl, eqb, leb}
+use Rattle.std.specs.Prelude.{ℕ, ◌+◌, ◌≤◌, ◌<◌, ◌≡◌, refl, eqb, leb, Option, Some, None, Ok, Err}
 use Rattle.std.proofs.Common.{◌∙◌, ⊎_elim, arith}
 use Rattle.std.proofs.Math.Bool.{true}
 use borrow.Author.Tests.{ltb-true, leb-true, eqb-true, eqb-false, le-leb}
@@ -10,13 +10,10 @@ use Rattle.records.specs.Truth.{both, either, chosen, past, last}
 use Rattle.records.specs.Fits.{Child, Fits, fits, child, child_or_missing, next_lvalue_lem}
 use Rattle.records.specs.Reading.{stmt_reading, expr_reading, lvalue-reading, arguments-reading}
 use Rattle.records.specs.Cases.{place_of, value_of, node_of_lvalue, Named, Targeted, Means, Refers, Understood}
-use Rattle.records.specs.Decode.{lvalue_by, lvalue_at, with_target, expression_by, decoded_by, decoded_at, argument_at}
+use Rattle.records.specs.Decode.{lvalue_by, lvalue_at, Decoded, Decoded, with_target, expression_by, decoded_by, decoded_at, argument_at}
 use Rattle.records.specs.declared.LValue.{LValue}
-use Rattle.records.specs.declared.Target.{Target}
-use Rattle.records.specs.declared.Target.TheVariants.{Place, Other}
 use Rattle.records.specs.declared.Node as case
-use Rattle.records.specs.declared.Decoded.{Decoded}
-use Rattle.records.specs.declared.Decoded.TheVariants.{Is, Refused}
+use Rattle.records.specs.declared.refusal.Refusal.{Refusal}
 
 -- What is known of a node that is an L-value.
 pub record Placed (h : Header) (s : Parts) (m : ℕ) (l : LValue) : Type 0 where
@@ -25,14 +22,14 @@ pub record Placed (h : Header) (s : Parts) (m : ℕ) (l : LValue) : Type 0 where
   pub here : node_of_lvalue l ≡ m
   pub names : Named h s l
 
-abbrev pub Stands : Header → Parts → ℕ → Target → Type 0
-Stands h s m (Place l) = Placed h s m l
-Stands h s m Other = ⊥
+abbrev pub Stands : Header → Parts → ℕ → Option LValue → Type 0
+Stands h s m (Some l) = Placed h s m l
+Stands h s m None = ⊥
 
-with_target_lem : (h : Header) (s : Parts) (m : ℕ) (P : Decoded → Type 0) (t : Target) (n : ℕ) (made : LValue → Decoded)
+with_target_lem : (h : Header) (s : Parts) (m : ℕ) (P : Decoded → Type 0) (t : Option LValue) (n : ℕ) (made : LValue → Decoded)
     → Stands h s m t → ((l : LValue) → Placed h s m l → P (made l)) → P (with_target t n made)
-with_target_lem h s m P (Place l) n made p go = go l p
-with_target_lem h s m P Other n made p go = absurd p
+with_target_lem h s m P (Some l) n made p go = go l p
+with_target_lem h s m P None n made p go = absurd p
 
 -- A record by itself, with what its node is read as.
 module _ (h : Header) (s : Parts) (n : ℕ) (r : Node) (f : Fits h s.nodes n r)
@@ -178,12 +175,12 @@ module _ (h : Header) (s : Parts) (few : h.nodes ≤ missing)
       (λ l p. (arguments-reading h s few n inside (fit_at n inside) i ∙ rw p.place, (p.names, next_lvalue_lem h s.nodes n (node_of s.nodes n) (fit_at n inside) i)))
 
   -- What a decoded case means and refers to.
-  pub means : (n : ℕ) → n < h.nodes → (x : case.Node) → decoded_at s.nodes n ≡ Is x → Means h s n x
+  pub means : (n : ℕ) → n < h.nodes → (x : case.Node) → decoded_at s.nodes n ≡ Ok x → Means h s n x
   means n inside x e = (rw e at (understood_at n inside)).0
 
-  pub refers_to : (n : ℕ) → n < h.nodes → (x : case.Node) → decoded_at s.nodes n ≡ Is x → Refers h s n x
+  pub refers_to : (n : ℕ) → n < h.nodes → (x : case.Node) → decoded_at s.nodes n ≡ Ok x → Refers h s n x
   refers_to n inside x e = (rw e at (understood_at n inside)).1
 
   -- No node is refused.
-  pub not_refused : (n : ℕ) → n < h.nodes → (number place : ℕ) → decoded_at s.nodes n ≡ Refused number place → ⊥
-  not_refused n inside number place e = rw e at (understood_at n inside)
+  pub not_refused : (n : ℕ) → n < h.nodes → (r : Refusal) → decoded_at s.nodes n ≡ Err r → ⊥
+  not_refused n inside r e = rw e at (understood_at n inside)

@@ -22,6 +22,7 @@ use Rattle.entry.proofs.Accepted.{Formed, formed, laid, part_length}
 use Rattle.entry.proofs.Outcomes.{Entered, entered}
 use Rattle.entry.proofs.Names.{rows_home, rows_starting, starting-good}
 use Rattle.expressions.specs.Relations.{Good}
+use Rattle.records.specs.Slots.{Table}
 use Rattle.executors.specs.World.{Code, Statement, World, Stands}
 use Rattle.runner.specs.Runs.{Ready, slots_begun}
 use Rattle.runner.proofs.Keeps.{within_body}
@@ -103,7 +104,7 @@ module _ {h : Header} {s : Parts} {works : ℕ} {lengths store : List ℕ} (R : 
   pub last_one : h.procedures - 1 < h.procedures
   last_one = omega (arith, keeps.some)
 
-  pub stands : (slots slots' : List ℕ) → length slots ≡ 4096 → length slots' ≡ 4096 → slots' ≡ slots_begun h s lengths (length store) slots → Stands world (h.procedures - 1) slots' starting
+  pub stands : (slots slots' : Table) → length slots ≡ 1024 → length slots' ≡ 1024 → slots' ≡ slots_begun h s lengths (length store) slots → Stands world (h.procedures - 1) slots' starting
   unfolding world
   stands slots slots' long long' e =
       let last = keeps.procedure (h.procedures - 1) last_one in

@@ -4,42 +4,49 @@ use mathlib.Core.Path.{◌≡◌, sym, ap, ◌∙◌}
 use mathlib.Core.List.{List}
 use mathlib.Core.Bool.{Bool}
 use native.Mathlib.Omega.{arith}
-use lib.ListN.{length, replicate}
-use Rattle.rules.specs.Image.{Header, header_of}
+use lib.ListN.{length}
+use Rattle.std.specs.Prelude.{Result, Ok, Err, ⊤}
+use Rattle.rules.specs.Image.{header_of, parts_of}
 use Rattle.rules.specs.Form.{Verdict}
 use Rattle.rules.specs.Check.{verdict}
-use Rattle.rules.specs.Run.{entry_refusal}
-use Rattle.rules.specs.Promised.{Ran}
-use Rattle.entry.specs.Cells.{parts}
+use Rattle.rules.specs.Run.{Given, entry_refusal}
+use Rattle.records.specs.Refusals.{as_verdict}
+use Rattle.records.specs.declared.refusal.Refusal.{Refusal}
 use Rattle.entry.specs.Refusals.{entry_tests}
 use Rattle.entry.proofs.Outcomes.{refused-first}
-use Rattle.expressions.specs.declared.Run.{Run}
-use Rattle.runner.specs.declared.Answer.{Answer}
-use Rattle.runner.specs.Runs.{as_given, cells_of, Worked, Finished}
-use Rattle.runner.proofs.Endings.{ran-refused, ran-ended}
-use Rattle.runner.proofs.Entrance.{own_parts, late, same-execution}
+use Rattle.expressions.specs.declared.trace.Run.{Run}
+use Rattle.runner.specs.Runs.{as_given, cells_of, Begins, Worked, Finished, RanBy}
+use Rattle.runner.proofs.Endings.{some_number, ran-refused, ran-ended}
+use Rattle.runner.proofs.Entrance.{late, same-execution}
 
-module _ (image : List ℕ) (inverse : Bool) (lengths store : List ℕ) (works budget room : ℕ) where
+module _ (image : List ℕ) (inverse : Bool) (lengths store work : List ℕ) (run : Run) (begins : Begins work run) where
+  abbrev given : Given
+  given = as_given image inverse lengths store (length work) run.left (length run.events.now)
+
+  refused_by : (r : Refusal) → as_verdict (Err r) ≡ entry_refusal given → RanBy image inverse lengths store work run (Err r) store work run
+  refused_by r told =
+      ran-refused given (λ z. some_number r.rule (ap (λ (x : Verdict). x.number) told ∙ z)) (as_verdict (Err r)) told _ _ (omega arith) begins.none
+      work run.events.now begins.work_value begins.trace_value
+
   -- "The check's refusals come first".
-  pub ran-unchecked : (v : Verdict) → v ≡ verdict image → (v.number ≡ 0 → ⊥) → (work trace : List ℕ) → work ≡ replicate works 0 → trace ≡ replicate room 0
-      → Ran (as_given image inverse lengths store works budget room) v.number v.place 0 0 store work trace
-  ran-unchecked v ev n work trace ew et =
-      let first : entry_refusal (as_given image inverse lengths store works budget room) ≡ verdict image = refused-first (as_given image inverse lengths store works budget room) (λ z. n (ap (λ (x : Verdict). x.number) ev ∙ z)) in
-      let told : v ≡ entry_refusal (as_given image inverse lengths store works budget room) = ev ∙ sym first in
-      ran-refused (as_given image inverse lengths store works budget room) (λ z. n (ap (λ (x : Verdict). x.number) told ∙ z)) v told work trace ew et
+  pub ran-unchecked : (r : Refusal) → as_verdict (Err r) ≡ verdict image → RanBy image inverse lengths store work run (Err r) store work run
+  ran-unchecked r ev = refused_by r (ev ∙ sym (refused-first given (λ z. some_number r.rule (ap (λ (x : Verdict). x.number) ev ∙ z))))
 
-  module _ (h : Header) (passed : (verdict image).number ≡ 0) (e : h ≡ header_of image) (v : Verdict)
-      (ev : v ≡ entry_tests h (parts (own_parts h image).procedures (own_parts h image).variables) works lengths store) where
-    told : v ≡ entry_refusal (as_given image inverse lengths store works budget room)
-    told = late image h passed e works lengths store inverse budget room v ev
+  module _ (passed : (verdict image).number ≡ 0) where
+    told : (v : Result ⊤ Refusal) → as_verdict v ≡ entry_tests (header_of image) (parts_of image) (length work) lengths store → as_verdict v ≡ entry_refusal given
+    told v ev = late image passed (length work) lengths store inverse run.left (length run.events.now) (as_verdict v) ev
 
-    pub ran-late : (v.number ≡ 0 → ⊥) → (work trace : List ℕ) → work ≡ replicate works 0 → trace ≡ replicate room 0
-        → Ran (as_given image inverse lengths store works budget room) v.number v.place 0 0 store work trace
-    ran-late n work trace ew et = ran-refused (as_given image inverse lengths store works budget room) (λ z. n (ap (λ (x : Verdict). x.number) told ∙ z)) v told work trace ew et
+    -- "then 19 to 22".
+    pub ran-late : (r : Refusal) → as_verdict (Err r) ≡ entry_tests (header_of image) (parts_of image) (length work) lengths store
+        → RanBy image inverse lengths store work run (Err r) store work run
+    ran-late r ev = refused_by r (told (Err r) ev)
 
-    pub ran-through : v.number ≡ 0 → budget < 2 ^ 32 → (work trace stored' work' : List ℕ) (r : Run) (a : Answer) → length trace ≡ room → length work ≡ works
-        → Worked h (own_parts h image) inverse lengths store budget work trace r → Finished store work budget r stored' work' a
-        → Ran (as_given image inverse lengths store works budget room) a.number a.place a.steps a.entries stored' work' trace
-    ran-through z small work trace stored' work' r a long wide w f =
-        ran-ended (as_given image inverse lengths store works budget room) (ap (λ (x : Verdict). x.number) (sym told) ∙ z) small (cells_of h (own_parts h image) (length store)) (omega arith)
-        work trace stored' work' r a long wide f _ (same-execution image h passed e works lengths store inverse budget room) w.is
+    pub ran-through : (x : ⊤) → as_verdict (Ok x) ≡ entry_tests (header_of image) (parts_of image) (length work) lengths store → run.left < 2 ^ 32
+        → (work₁ stored' work' : List ℕ) (r : Result ⊤ Refusal) (run' : Run)
+        → length run'.events.now ≡ length run.events.now → length work₁ ≡ length work
+        → Worked (header_of image) (parts_of image) inverse lengths store run work₁ r run' → Finished store work₁ r stored' work'
+        → RanBy image inverse lengths store work run r stored' work' run'
+    ran-through x ev small work₁ stored' work' r run' long wide w f =
+        ran-ended given (ap (λ (z : Verdict). z.number) (sym (told (Ok x) ev))) small (cells_of (header_of image) (parts_of image) (length store)) (omega arith)
+        work₁ run'.events.now stored' work' run'.left run'.entries long wide r f _
+        (same-execution image passed (length work) lengths store inverse run.left (length run.events.now)) w.is

@@ -2,199 +2,115 @@
 // was refused, and the work words are 0 afterwards, whatever the answer is.
 #![tactic(auto)]
 
-ghost use Rattle.std.specs.Prelude.{◌≡◌, ◌-◌, ◌≤◌, length, replicate};
-ghost use Rattle.rules.specs.Image.{header_of};
-ghost use Rattle.rules.specs.Check.{verdict};
+ghost use Rattle.std.specs.Prelude.{◌≡◌, ◌^◌, ◌<◌, ◌≤◌, length};
 ghost use Rattle.rules.specs.Promised.{Ran};
-ghost use Rattle.records.specs.Records.{as_header, as_verdict};
-ghost use Rattle.entry.specs.Cells.{parts};
-ghost use Rattle.runner.specs.Runs.{as_given, four_parts, Ready, Placing, Placed, Worked, Finished};
+ghost use Rattle.records.specs.Records.{as_header};
+ghost use Rattle.records.specs.Refusals.{as_verdict};
+ghost use Rattle.records.specs.Parts.{as_parts};
+ghost use Rattle.expressions.specs.Standing.{SameRun};
+ghost use Rattle.executors.specs.World.{Statement, Bodies};
+ghost use Rattle.runner.specs.Runs.{as_given, Ready, Placing, Placed, Begins, Executed, Worked, Finished, RanBy};
 
-use expressions::Run;
-use records::{Header, Verdict};
+use expressions::{Memory, Run};
+use records::{Header, NO_SLOT, Parts, Slot, Verdict};
 
 // "Answer: number, place, steps, trace entries."
-#[derive(Clone, Copy)]
+#[derive(Clone, Copy, Debug, PartialEq, Eq)]
 pub struct Answer {
-    pub number: u16,
-    pub place: u16,
+    pub verdict: Verdict,
     pub steps: u32,
     pub entries: u64,
 }
 
-// The answer to a refusal up to 22: "steps, entries and trace are 0".
-fn refused(v: Verdict) -> Answer
-    ensures { result ≡ record { number = v.number; place = v.place; steps = 0; entries = 0 } }
-{
-    Answer {
-        number: v.number,
-        place: v.place,
-        steps: 0,
-        entries: 0,
-    }
-}
-
 // Where every name of the run lives, and how many cells there are.
-fn placed(
-    h: Header,
-    procedures: &[u8],
-    variables: &[u8],
-    lengths: &[u64],
-    stored: u16,
-    slots: &mut [u16],
-) -> u16
-    requires { Placing (as_header h) (parts procedures.now variables.now) lengths.now stored (length slots.old) }
-    ensures { Placed (as_header h) (parts procedures.now variables.now) lengths.now stored slots.old slots.new result }
+fn placed(h: Header, parts: &Parts, lengths: &[u64], stored: u16, slots: &mut [Slot]) -> u16
+    requires { Placing (as_header h) (as_parts parts.now) lengths.now stored (length slots.old) }
+    ensures { Placed (as_header h) (as_parts parts.now) lengths.now stored slots.old slots.new result }
 {
-    let total = entry::cells::place_locals(h, procedures, variables, stored, slots);
-    let last = records::procedure_at(procedures, h.procedures - 1);
-    entry::cells::place_store(variables, last.first, lengths, slots);
+    let total = entry::cells::place_locals(h, parts, stored, slots);
+    let last = records::procedure_at(parts.procedures, h.procedures - 1);
+    entry::cells::place_store(parts, last.first, lengths, slots);
     total
 }
 
-// The last procedure's body over the first work words, which hold the store and the locals.
+// Node n of procedure p over the cells of the run.
 fn executed(
+    parts: &Parts,
+    inverse: bool,
+    p: u16,
+    n: u16,
+    cells: &mut [u64],
+    slots: &mut [Slot],
+    run: &mut Run<'_>,
+) -> Verdict
+    requires { Statement parts.now.nodes.now n × Bodies parts.now.nodes.now parts.now.procedures.now p }
+    ensures executed { Executed (as_parts parts.now) inverse p n cells.old slots.old run.old cells.new slots.new result run.new }
+    ensures same { SameRun run.old run.new }
+{
+    let mut memory = Memory {
+        parts: *parts,
+        cells,
+        slots,
+    };
+    executors::statement(&mut memory, run, inverse, p, n)
+}
+
+// The last procedure's body over the first work words, which hold the store and the locals. The store has at most 4,096 cells by 22, so
+// that its length is not cut by `as`.
+fn worked(
     h: Header,
-    procedures: &[u8],
-    variables: &[u8],
-    nodes: &[u8],
-    constants: &[u8],
+    parts: &Parts,
     inverse: bool,
     lengths: &[u64],
     store: &[u64],
     work: &mut [u64],
-    budget: u32,
-    trace: &mut [u32],
-) -> Run
-    requires ready { Ready (as_header h) (four_parts procedures.now variables.now nodes.now constants.now) (length work.old) lengths.now store.now }
-    requires work_value { (work.old ≡ replicate (length work.old) 0) × (trace.old ≡ replicate (length trace.old) 0) }
-    ensures { Worked (as_header h) (four_parts procedures.now variables.now nodes.now constants.now) inverse
-        lengths.now store.now budget work.new trace.new result }
+    run: &mut Run<'_>,
+) -> Verdict
+    requires ready { Ready (as_header h) (as_parts parts.now) (length work.old) lengths.now store.now }
+    requires begins { Begins work.old run.old }
+    ensures worked { Worked (as_header h) (as_parts parts.now) inverse lengths.now store.now run.old work.new result run.new }
+    ensures same { SameRun run.old run.new }
 {
-    let mut slots = [0u16; 4096];
-    let total = placed(
-        h,
-        procedures,
-        variables,
-        lengths,
-        store.len() as u16,
-        &mut slots,
-    );
-    let end = total as usize;
+    let mut slots = [NO_SLOT; 1024];
+    let total = usize::from(placed(h, parts, lengths, store.len() as u16, &mut slots));
     entry::work::copy_in(work, store);
     let p = h.procedures - 1;
-    let last = records::procedure_at(procedures, p);
-    let start = Run {
-        number: 0,
-        place: 0,
-        left: budget,
-        entries: 0,
-    };
-    executors::statement(
-        nodes,
-        procedures,
-        variables,
-        constants,
-        &mut work[..end],
-        &mut slots,
-        trace,
-        inverse,
-        p,
-        last.body,
-        start,
-    )
-}
-
-// How many steps were taken of the budget.
-fn spent(budget: u32, left: u32) -> u32
-    ensures { result ≡ budget - left }
-{
-    if left < budget {
-        return budget - left;
-    }
-    0
-}
-
-// No word of the run is left behind.
-fn wiped(words: &mut [u64])
-    ensures { words.new ≡ replicate (length words.old) 0 }
-{
-    entry::work::clear(words);
+    let body = records::procedure_at(parts.procedures, p).body;
+    executed(parts, inverse, p, body, &mut work[..total], &mut slots, run)
 }
 
 // The end of a run: the store copied out where nothing was refused, and the work words cleared.
-fn finished(store: &mut [u64], work: &mut [u64], budget: u32, done: Run) -> Answer
-    requires { length store.old ≤ length work.old }
-    ensures { Finished store.old work.old budget done store.new work.new result }
+fn finished(store: &mut [u64], words: &mut [u64], verdict: Verdict)
+    requires { length store.old ≤ length words.old }
+    ensures { Finished store.old words.old verdict store.new words.new }
 {
-    let steps = spent(budget, done.left);
-    let stop = done.number;
-    if stop != 0 {
-        wiped(work);
-        return Answer {
-            number: stop,
-            place: done.place,
-            steps: steps,
-            entries: done.entries,
-        };
+    if verdict.is_ok() {
+        entry::work::copy_out(store, words);
     }
-    entry::work::copy_out(store, &work[..]);
-    wiped(work);
-    Answer {
-        number: 0,
-        place: 0,
-        steps: steps,
-        entries: done.entries,
-    }
+    entry::work::clear(words);
 }
 
-// A run of an accepted image: 19 to 22, then the execution.
-fn accepted(
+// The run as far as it is let: the check's refusals come first, then 19 to 22, then the execution.
+fn ran(
     image: &[u8],
-    h: Header,
     inverse: bool,
     lengths: &[u64],
     store: &mut [u64],
     work: &mut [u64],
-    budget: u32,
-    trace: &mut [u32],
-) -> Answer
-    requires image_value { ((verdict image.now).number ≡ 0) × (as_header h ≡ header_of image.now) }
-    requires work_value { (work.old ≡ replicate (length work.old) 0) × (trace.old ≡ replicate (length trace.old) 0) }
-    ensures { Ran (as_given image.now inverse lengths.now store.old (length work.old) budget (length trace.old))
-        result.number result.place result.steps result.entries store.new work.new trace.new }
+    run: &mut Run<'_>,
+) -> Verdict
+    requires begins { Begins work.old run.old }
+    requires left { run.old.left < 2 ^ 32 }
+    ensures ran { RanBy image.now inverse lengths.now store.old work.old run.old result store.new work.new run.new }
+    ensures same { SameRun run.old run.new }
 {
-    let p = h.procedure_part as usize;
-    let v = h.variable_part as usize;
-    let n = h.node_part as usize;
-    let k = h.constant_part as usize;
-    let e = h.total as usize;
-    let late = entry::refusals::entry_refusal(
-        h,
-        &image[p..v],
-        &image[v..n],
-        lengths,
-        &store[..],
-        work.len(),
-    );
-    let refusal = late.number;
-    if refusal != 0 {
-        return refused(late);
-    }
-    let done = executed(
-        h,
-        &image[p..v],
-        &image[v..n],
-        &image[n..k],
-        &image[k..e],
-        inverse,
-        lengths,
-        &store[..],
-        work,
-        budget,
-        trace,
-    );
-    finished(store, work, budget, done)
+    checker::check(image)?;
+    let h = records::header_of(image);
+    let parts = records::parts_of(image);
+    entry::refusals::entry_refusal(h, &parts, lengths, store, work.len())?;
+    let verdict = worked(h, &parts, inverse, lengths, store, work, run);
+    finished(store, work, verdict);
+    verdict
 }
 
 // The run of an image over a lent store: "number, place, steps, trace entries".
@@ -208,15 +124,19 @@ pub fn run(
     trace: &mut [u32],
 ) -> Answer
     ensures { Ran (as_given image.now inverse lengths.now store.old (length work.old) budget (length trace.old))
-        result.number result.place result.steps result.entries store.new work.new trace.new }
+        (as_verdict result.verdict).number (as_verdict result.verdict).place result.steps result.entries store.new work.new trace.new }
 {
     entry::work::clear(work);
-    entry::work::clear_trace(trace);
-    let checked = checker::check(image);
-    let refusal = checked.number;
-    if refusal != 0 {
-        return refused(checked);
+    trace.fill(0);
+    let mut run = Run {
+        events: trace,
+        entries: 0,
+        left: budget,
+    };
+    let verdict = ran(image, inverse, lengths, store, work, &mut run);
+    Answer {
+        verdict,
+        steps: budget - run.left,
+        entries: run.entries,
     }
-    let h = records::header_of(image);
-    accepted(image, h, inverse, lengths, store, work, budget, trace)
 }

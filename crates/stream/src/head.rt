@@ -1,76 +1,80 @@
 // What stands at the front of a run, and what the rest of a stream begins with.
-ghost use Rattle.std.specs.Prelude.{◌≡◌, length};
-ghost use Rattle.stream.specs.Heads.{head_of, size_of, fitting, next_by, next_of};
+ghost use Rattle.std.specs.Prelude.{◌≡◌, ◌≤◌, length, IfOk, IfSome};
+ghost use Rattle.std.specs.Bool.{OnTrue};
+ghost use Rattle.stream.specs.Heads.{Fits, size_of, fitting, next_of};
 
-// How long the image and the name are, the direction (1 is inverse), how many lengths, cells, work words and trace entries there are, and the budget.
+// What stands there is neither a run nor the stream's end.
+#[derive(Clone, Copy, Debug, PartialEq, Eq)]
+pub struct BadStream;
+
+// How long the image and the name are, whether the direction is inverse, how many lengths, cells, work words and trace entries there are, and the budget.
 #[derive(Clone, Copy)]
 pub struct Head {
     pub image: u16,
     pub name: u16,
-    pub direction: u16,
+    pub inverse: bool,
     pub lengths: u16,
     pub cells: u16,
     pub works: u16,
     pub room: u16,
-    pub budget: u64,
+    pub budget: u32,
 }
 
-#[derive(Clone, Copy)]
-pub enum Next {
-    Run(Head),
-    End,
-    Bad,
+impl Head {
+    // How many bytes a run has, with its head.
+    pub fn size(&self) -> usize
+        ensures { result ≡ size_of self.now }
+    {
+        22 + usize::from(self.name)
+            + usize::from(self.image)
+            + usize::from(self.lengths) * 8
+            + usize::from(self.cells) * 8
+    }
+
+    // Whether a run can be lent what its head asks for. More is let through than document 01 lets a run have, so that its refusals are met.
+    #[tactic(auto, unfolding(crate::specs::Heads::fitting))]
+    fn fits(&self) -> bool
+        ensures same { result ≡ fitting self.now }
+        ensures holds { OnTrue result (Fits self.now) }
+    {
+        self.lengths <= 32 && self.cells <= 4096 && self.works <= 8448 && self.room <= 64
+    }
 }
 
-fn head_of(rest: &[u8]) -> Head
-    ensures { result ≡ head_of rest.now }
+// What the rest of a stream begins with: a run, or its end.
+#[tactic(auto, unfolding(crate::specs::Heads::next_of))]
+pub fn next_of(rest: &[u8]) -> Result<Option<Head>, BadStream>
+    ensures same { result ≡ next_of rest.now }
+    ensures whole { IfOk result (λ next. IfSome next (λ h. Fits h × (size_of h ≤ length rest.now))) }
 {
-    Head {
-        image: records::u16_at(rest, 0),
+    let image = records::u16_at(rest, 0);
+    if image == 0 {
+        if rest.len() == 2 {
+            return Ok(None);
+        }
+        return Err(BadStream);
+    }
+    let inverse = match records::u16_at(rest, 4) {
+        0 => false,
+        1 => true,
+        _ => return Err(BadStream),
+    };
+    let Ok(budget) = u32::try_from(records::u64_at(rest, 14)) else {
+        return Err(BadStream);
+    };
+    let head = Head {
+        image,
         name: records::u16_at(rest, 2),
-        direction: records::u16_at(rest, 4),
+        inverse,
         lengths: records::u16_at(rest, 6),
         cells: records::u16_at(rest, 8),
         works: records::u16_at(rest, 10),
         room: records::u16_at(rest, 12),
-        budget: records::u64_at(rest, 14),
+        budget,
+    };
+    if head.fits() && head.size() <= rest.len() {
+        Ok(Some(head))
+    } else {
+        Err(BadStream)
     }
-}
-
-// How many bytes a run has, with its head.
-fn size_of(h: Head) -> usize
-    ensures { result ≡ size_of h }
-{
-    22 + h.name as usize + h.image as usize + h.lengths as usize * 8 + h.cells as usize * 8
-}
-
-// Whether a run can be lent what its head asks for. More is let through than document 01 lets a run have, so that its refusals are met.
-fn fits(h: Head) -> bool
-    ensures { result ≡ fitting h }
-{
-    let numbers = (h.direction <= 1) & (h.budget <= 4294967295);
-    let lists = (h.lengths <= 32) & (h.cells <= 4096);
-    numbers & (lists & ((h.works <= 8448) & (h.room <= 64)))
-}
-
-fn next_by(h: Head, bytes: usize) -> Next
-    ensures { result ≡ next_by h bytes }
-{
-    if h.image == 0 {
-        if bytes == 2 {
-            return Next::End;
-        }
-        return Next::Bad;
-    }
-    if fits(h) & (size_of(h) <= bytes) {
-        return Next::Run(h);
-    }
-    Next::Bad
-}
-
-// What the rest of a stream begins with.
-pub fn next_of(rest: &[u8]) -> Next
-    ensures { result ≡ next_of rest.now }
-{
-    next_by(head_of(rest), rest.len())
 }

@@ -9,104 +9,94 @@ mod print;
 ghost use Rattle.std.specs.Prelude.{◌≤◌, ◌≡◌, length};
 ghost use Rattle.stream.specs.Heads.{Fits, size_of};
 
-use head::{Head, Next};
+use head::{BadStream, Head};
+use output::Output;
+use print::{Cells, Told};
+use std::fmt::Write;
 
-// The line of a run over what is lent to it; the lengths and the cells are read from their parts first.
-fn line(
-    name: &[u8],
-    image: &[u8],
-    h: Head,
-    lengths: &[u8],
-    cells: &[u8],
-    list: &mut [u64],
-    store: &mut [u64],
-    work: &mut [u64],
-    trace: &mut [u32],
-)
-    requires { Fits h × (length list.old ≤ 32) × (length store.old ≤ 4096) }
-{
-    lists::read(lengths, list);
-    lists::read(cells, store);
-    let inverse = h.direction == 1;
-    print::given(name, inverse, &store[..]);
-    let answer = runner::run(
-        image,
-        inverse,
-        &list[..],
-        store,
-        work,
-        h.budget as u32,
-        trace,
-    );
-    print::left(answer, &store[..], &work[..], &trace[..]);
+// A run as it stands in the stream.
+#[derive(Clone, Copy)]
+struct Run<'a> {
+    head: Head,
+    name: &'a [u8],
+    image: &'a [u8],
+    lengths: &'a [u8],
+    cells: &'a [u8],
 }
 
-// What a run is lent is dirty, so that what it leaves there shows.
-fn lent(name: &[u8], image: &[u8], h: Head, lengths: &[u8], cells: &[u8])
-    requires { Fits h }
-{
-    let mut list = [0u64; 32];
-    let mut store = [0u64; 4096];
-    let mut work = [23130u64; 8448];
-    let mut trace = [7u32; 64];
-    let listed = h.lengths as usize;
-    let stored = h.cells as usize;
-    let works = h.works as usize;
-    let room = h.room as usize;
-    line(
-        name,
-        image,
-        h,
-        lengths,
-        cells,
-        &mut list[..listed],
-        &mut store[..stored],
-        &mut work[..works],
-        &mut trace[..room],
-    );
-}
-
-// The run at the front of the rest, told; how many bytes it has.
-fn told(rest: &[u8], h: Head) -> usize
-    requires { Fits h × (size_of h ≤ length rest.now) }
-    ensures { result ≡ size_of h }
-{
-    let name = 22 + h.name as usize;
-    let image = name + h.image as usize;
-    let lengths = image + h.lengths as usize * 8;
-    let store = lengths + h.cells as usize * 8;
-    lent(
-        &rest[22..name],
-        &rest[name..image],
-        h,
-        &rest[image..lengths],
-        &rest[lengths..store],
-    );
-    store
-}
-
-// The lines of all runs; whether the stream is whole.
-fn lines(stream: &[u8]) -> bool {
-    let mut at = 0;
-    while at < stream.len() {
-        let next = head::next_of(&stream[at..]);
-        match next {
-            Next::Run(h) => {
-                at += told(&stream[at..], h);
-            }
-            Next::End => return true,
-            Next::Bad => return false,
+impl<'a> Run<'a> {
+    // The run at the front of the rest.
+    fn front(rest: &'a [u8], head: Head) -> Run<'a>
+        requires { Fits head × (size_of head ≤ length rest.now) }
+        ensures { result.head ≡ head }
+    {
+        let name = 22 + usize::from(head.name);
+        let image = name + usize::from(head.image);
+        let lengths = image + usize::from(head.lengths) * 8;
+        let cells = lengths + usize::from(head.cells) * 8;
+        Run {
+            head,
+            name: &rest[22..name],
+            image: &rest[name..image],
+            lengths: &rest[image..lengths],
+            cells: &rest[lengths..cells],
         }
     }
-    false
+
+    // The line of the run. What it is lent is dirty, so that what it leaves there shows.
+    fn tell(&self)
+        requires { Fits self.now.head }
+    {
+        let head = self.head;
+        let mut list = [0u64; 32];
+        let mut store = [0u64; 4096];
+        let mut work = [23130u64; 8448];
+        let mut trace = [7u32; 64];
+        let list = &mut list[..usize::from(head.lengths)];
+        let store = &mut store[..usize::from(head.cells)];
+        let work = &mut work[..usize::from(head.works)];
+        let trace = &mut trace[..usize::from(head.room)];
+        lists::read(self.lengths, list);
+        lists::read(self.cells, store);
+        let direction = if head.inverse { "inverse" } else { "forward" };
+        let given = Cells(store);
+        Output.put(self.name);
+        let _ = write!(Output, " | {direction} | store{given} ->");
+        let answer = runner::run(
+            self.image,
+            head.inverse,
+            list,
+            store,
+            work,
+            head.budget,
+            trace,
+        );
+        let left = Cells(store);
+        let told = Told {
+            answer,
+            work,
+            trace,
+        };
+        let _ = writeln!(Output, "{left}{told}");
+    }
+}
+
+// The lines of all runs, up to the stream's end.
+fn lines(stream: &[u8]) -> Result<(), BadStream> {
+    let mut rest = stream;
+    while let Some(head) = head::next_of(rest)? {
+        Run::front(rest, head).tell();
+        rest = &rest[head.size()..];
+    }
+    Ok(())
 }
 
 // The lines of the stream on standard input, and `bad stream` where it is longer than the buffer, cut short, or no stream.
+// Input is read by the kit's `io` for the reason that `output` has.
 pub fn replay() {
     let mut buffer = io::large_buffer();
     let read = io::read_full(0, &mut buffer);
-    let whole = lines(&buffer[..read]);
-    if !whole || read == 65536 {
-        io::write_all(1, b"bad stream\n");
+    if lines(&buffer[..read]).is_err() || read == 65536 {
+        let _ = writeln!(Output, "bad stream");
     }
 }

@@ -1,5 +1,4 @@
-pub mod Parts
 pub mod Search
 pub mod Turns
 pub mod Tally
-pub mod Hand
+pub mod Places

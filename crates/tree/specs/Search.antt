@@ -1,12 +1,11 @@
--- A search for the lowest place: a turn passes on, stops or ends; what it says where it passes all; and that equal tests search alike.
-use Rattle.std.specs.Prelude.{◌≡◌, refl, Bool, true, false, not, cond, ◌⊎◌, eqb}
+-- A search for the lowest place: what it finds, what it says where it passes all, and that equal tests search alike.
+use Rattle.std.specs.Prelude.{◌≡◌, refl, Bool, true, false, cond, ◌⊎◌, eqb, Option, Some, None, unwrap_or, is_some, MatchOption}
 use Rattle.std.proofs.Math.Path.{sym}
-use Rattle.std.proofs.Common.{ap, ◌∙◌, inl, inr, ⊎_elim, zero-add}
-use Prim.Native.Nat.{ℕ, zero, suc, ◌+◌, ◌-◌, ◌≤◌, ◌<◌}
+use Rattle.std.proofs.Common.{zero-add, ap, ◌∙◌, inl, inr, ⊎_elim}
+use Prim.Native.Nat.{ℕ, zero, suc, ◌+◌, ◌≤◌, ◌<◌}
 use native.Mathlib.Omega.{arith}
-use Rattle.std.proofs.Math.Nat.{sub-zero}
-use borrow.Author.Tests.{ne_eqb, eqb-true, eqb-false}
-use Rattle.rules.specs.Form.{Verdict, ◌then◌, given, search, lowest}
+use borrow.Author.Tests.{ne_eqb, eq-eqb, eqb-true, eqb-false}
+use Rattle.rules.specs.Form.{Verdict, accepted, ◌then◌, given, search, lowest}
 
 pub tested : (b : Bool) → (b ≡ true) ⊎ (b ≡ false)
 tested true = inl refl
@@ -15,51 +14,70 @@ tested false = inr refl
 first_or_later : (i k : ℕ) → i ≤ k → (k ≡ i) ⊎ (suc i ≤ k)
 first_or_later i k low = ⊎_elim (λ t. inl (eqb-true k i t)) (λ f. inr (omega (arith, eqb-false k i f))) (tested (eqb k i))
 
--- A turn of a search passes on, stops or ends.
-module _ (passes : ℕ → Bool) (i n : ℕ) where
-  pub search-on : i < n → passes i ≡ true → search passes i (n - i) ≡ search passes (i + 1) (n - (i + 1))
-  unfolding search
-  search-on l t = let e : n - i ≡ suc (n - (i + 1)) = omega arith in let e' : i + 1 ≡ suc i = omega arith in rw (e, t, e')
+-- What a search finds: the lowest place that fails the test, or nothing where it ends behind them all.
+unfoldable pub found : (ℕ → Bool) → ℕ → ℕ → Option ℕ
+found passes i count = cond (eqb (search passes i count) (i + count)) None (Some (search passes i count))
 
-  pub search-stop : i < n → passes i ≡ false → search passes i (n - i) ≡ i
-  unfolding search
-  search-stop l t = let e : n - i ≡ suc (n - (i + 1)) = omega arith in rw (e, t)
+-- Every place before n passes.
+abbrev pub Passed : (ℕ → Bool) → ℕ → ℕ → Type 0
+Passed passes i n = (k : ℕ) → i ≤ k → k < n → passes k ≡ true
 
-  pub search-end : n ≤ i → search passes i (n - i) ≡ i
-  unfolding search
-  search-end l = let e : n - i ≡ 0 = omega arith in rw e
+pub passed-next : (passes : ℕ → Bool) (i n : ℕ) → Passed passes i n → passes n ≡ true → Passed passes i (n + 1)
+passed-next passes i n p e k low high =
+    ⊎_elim (λ t. rw (eqb-true k n t) e) (λ f. p k low (omega (arith, eqb-false k n f))) (tested (eqb k n))
 
--- A search from the front: the rest of the search is the whole.
-pub record Searching (passes : ℕ → Bool) (count n : ℕ) : Type 0 where
-  pub upto : n ≤ count
-  pub same : search passes 0 count ≡ search passes n (count - n)
+-- A search stops at the lowest place that fails, or behind the last.
+stops : (passes : ℕ → Bool) (i count n : ℕ) → i ≤ n → n < i + count → Passed passes i n → passes n ≡ false → search passes i count ≡ n
+unfolding search
+stops passes i zero n low high p e = absurd (omega arith)
+stops passes i (suc count) n low high p e =
+    ⊎_elim (λ (t : n ≡ i). let here : passes i ≡ false = rw t at e in rw here (sym t))
+    (λ (t : suc i ≤ n).
+    let passed : passes i ≡ true = p i (omega arith) (omega arith) in
+    let later : search passes (suc i) count ≡ n = stops passes (suc i) count n t (omega arith) (λ k l m. p k (omega arith) m) e in
+    rw (passed, later)) (first_or_later i n low)
 
-module _ (passes : ℕ → Bool) (count : ℕ) where
-  pub search-first : Searching passes count 0
-  search-first = record { upto = omega arith; same = rw sub-zero }
+ends : (passes : ℕ → Bool) (i count : ℕ) → Passed passes i (i + count) → search passes i count ≡ i + count
+unfolding search
+ends passes i zero p = omega arith
+ends passes i (suc count) p =
+    let passed : passes i ≡ true = p i (omega arith) (omega arith) in
+    rw passed (ends passes (suc i) count (λ k l m. p k (omega arith) (omega arith)) ∙ (omega arith))
 
-  pub search-next : (n : ℕ) → Searching passes count n → n < count → passes n ≡ true → Searching passes count (n + 1)
-  unfolding search
-  search-next n t l e =
-      let s : count - n ≡ suc (count - (n + 1)) = omega arith in
-      let e' : n + 1 ≡ suc n = omega arith in
-      record { upto = omega arith; same = t.same ∙ rw (s, e, e') }
+module _ (passes : ℕ → Bool) (i count end : ℕ) (last : i + count ≡ end) where
+  pub found_none : Passed passes i end → None ≡ found passes i count
+  unfolding found
+  found_none p =
+      let e : search passes i count ≡ i + count = ends passes i count (rw last p) in
+      rw (eq-eqb _ _ e)
 
-  pub search-found : (n : ℕ) → Searching passes count n → n < count → passes n ≡ false → n ≡ search passes 0 count
-  unfolding search
-  search-found n t l e = let s : count - n ≡ suc (count - (n + 1)) = omega arith in sym (t.same ∙ rw (s, e))
+  pub found_here : (n : ℕ) → i ≤ n → n < end → Passed passes i n → passes n ≡ false → Some n ≡ found passes i count
+  unfolding found
+  found_here n low high p e =
+      let here : search passes i count ≡ n = stops passes i count n low (omega arith) p e in
+      rw (here, ne_eqb n (i + count) (λ z. omega arith))
 
-  pub search-none : (n : ℕ) → Searching passes count n → count ≤ n → count ≡ search passes 0 count
-  unfolding search
-  search-none n t l =
-      let s : count - n ≡ 0 = omega arith in
-      let e : n ≡ count = omega (arith, t.upto) in
-      sym (t.same ∙ rw s e)
+  -- What the library's search over a range finds.
+  pub found-by : (r : Option ℕ)
+      → MatchOption r ((k : ℕ) → i ≤ k → k < end → passes k ≡ true) (λ n. (i ≤ n) × (n < end) × (passes n ≡ false) × ((k : ℕ) → i ≤ k → k < n → passes k ≡ true))
+      → r ≡ found passes i count
+  found-by None p = found_none p
+  found-by (Some n) p = found_here n p.0 p.1 p.3 p.2
 
--- The verdict of a search that ended at this place.
-pub lowest-is : (number : ℕ) (passes : ℕ → Bool) (n place : ℕ) → place ≡ search passes 0 n → given number place (not (eqb place n)) ≡ lowest number passes 0 n
-unfolding lowest
-lowest-is number passes n place e = rw (e, zero-add n)
+-- The place that a search ends at, where nothing is the end.
+pub end-of : (passes : ℕ → Bool) (count : ℕ) (place : Option ℕ) → place ≡ found passes 0 count → unwrap_or place count ≡ search passes 0 count
+unfolding found
+end-of passes count place e = rw e
+    (⊎_elim (λ t. rw t (sym (eqb-true (search passes 0 count) (0 + count) t ∙ zero-add count))) (λ f. rw f) (tested (eqb (search passes 0 count) (0 + count))))
+
+-- The verdict of a search that found this.
+pub lowest-from : (number : ℕ) (passes : ℕ → Bool) (i n : ℕ) (place : Option ℕ) → place ≡ found passes i n → given number (unwrap_or place 0) (is_some place) ≡ lowest number passes i n
+unfolding lowest given found
+lowest-from number passes i n place e = rw e
+    (⊎_elim (λ t. rw t) (λ f. rw f) (tested (eqb (search passes i n) (i + n))))
+
+pub lowest-is : (number : ℕ) (passes : ℕ → Bool) (n : ℕ) (place : Option ℕ) → place ≡ found passes 0 n → given number (unwrap_or place 0) (is_some place) ≡ lowest number passes 0 n
+lowest-is number passes n place e = lowest-from number passes 0 n place e
 
 -- Every place that a search passed passes the test.
 search-passed : (passes : ℕ → Bool) (i count : ℕ) → search passes i count ≡ i + count → (k : ℕ) → i ≤ k → k < i + count → passes k ≡ true
@@ -80,17 +98,16 @@ lowest-accepts number z passes count e k l =
     (λ f. absurd (z (rw f at e))) (tested (eqb (search passes 0 count) (0 + count)))
 
 -- Tests that agree at each place search alike.
-pub search-same : (p q : ℕ → Bool) (i count : ℕ) → ((k : ℕ) → i ≤ k → k < i + count → p k ≡ q k) → search p i count ≡ search q i count
+search-same : (p q : ℕ → Bool) (i count : ℕ) → ((k : ℕ) → i ≤ k → k < i + count → p k ≡ q k) → search p i count ≡ search q i count
 unfolding search
 search-same p q i zero h = refl
 search-same p q i (suc count) h = rw (h i (omega arith) (omega arith)) (ap (λ x. cond (q i) x i) (search-same p q (suc i) count (λ k l m. h k (omega arith) (omega arith))))
 
--- One test after another: the first that refuses, or what follows.
-module _ (v x : Verdict) (is : v ≡ x) (w : Verdict) where
-  pub then_stops : (v.number ≡ 0 → ⊥) → v ≡ (x then w)
-  unfolding ◌then◌
-  then_stops n = rw (← is, ne_eqb v.number 0 n)
+pub found-same : (p q : ℕ → Bool) (i count : ℕ) → ((k : ℕ) → i ≤ k → k < i + count → p k ≡ q k) → found p i count ≡ found q i count
+unfolding found
+found-same p q i count h = rw (search-same p q i count h)
 
-  pub then_goes : v.number ≡ 0 → (u : Verdict) → u ≡ w → u ≡ (x then w)
-  unfolding ◌then◌
-  then_goes n u e = rw (← is, n) e
+-- What follows a test that accepts decides.
+pub then-on : (v w x : Verdict) → accepted ≡ v → x ≡ w → x ≡ v then w
+unfolding ◌then◌
+then-on v w x e is = rw (← e) is

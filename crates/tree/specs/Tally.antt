@@ -1,13 +1,12 @@
 -- How often each node is referred to, counted as never, once or more: 0, 1 or 2.
-use Rattle.std.specs.Prelude.{◌≡◌, refl, List, [], ◌∷◌, ◌++◌, true, false, not, cond, ℕ, suc, ◌+◌, ◌≤◌, ◌<◌, eqb, ltb, length, get_or, set}
+use Rattle.std.specs.Prelude.{◌≡◌, refl, List, [], ◌∷◌, ◌++◌, true, false, cond, ℕ, suc, ◌+◌, ◌≤◌, ◌<◌, eqb, ltb, length, get_or, set, Option, unwrap_or, is_some}
 use Rattle.std.proofs.Common.{sym, ◌∙◌, ⊎_elim, arith, add-zero, zero-add, eqb-true, ne_eqb, ltb-true, ltb-false, length-set, get_or-set_same, get_or-set_other}
 use Rattle.std.proofs.lemmas.Bool.{eqb-false}
-use Rattle.rules.specs.Image.{Header, Node, node_of, procedure_of}
-use Rattle.rules.specs.Form.{class_of, given, search}
+use Rattle.rules.specs.Image.{Header, Parts, Node, node_of, procedure_of}
+use Rattle.rules.specs.Form.{class_of, given}
 use Rattle.rules.specs.Tree.{occurrences, reference, references_of, node_references, bodies, reference_refusal}
 use Rattle.tree.specs.Turns.{Steps}
-use Rattle.tree.specs.Search.{tested, lowest-is, search-same}
-use Rattle.tree.specs.Parts.{tree_parts}
+use Rattle.tree.specs.Search.{tested, found, lowest-is, found-same}
 
 unfoldable pub one_more : ℕ → ℕ
 one_more x = cond (ltb x 2) (x + 1) 2
@@ -87,16 +86,16 @@ unfolding tally bodies
 bodies-steps s = record { none = λ p x. refl; one = λ p count x. refl }
 
 -- The lowest node that is not counted once is the lowest that is not referred to exactly once.
-pub references_refused : (h : Header) (procedures nodes : List ℕ) (zeros : List ℕ) → ((i : ℕ) → get_or zeros i 0 ≡ 0) → h.nodes ≤ length zeros
-    → (c₁ c₂ : List ℕ) → c₁ ≡ tally (bodies procedures 0 h.procedures) zeros → c₂ ≡ tally (node_references nodes 0 h.nodes) c₁
-    → (place : ℕ) → place ≡ search (λ n. eqb (get_or c₂ n 0) 1) 0 h.nodes
-    → given 6 place (not (eqb place h.nodes)) ≡ reference_refusal h (tree_parts procedures nodes)
+pub references_refused : (h : Header) (s : Parts) (zeros : List ℕ) → ((i : ℕ) → get_or zeros i 0 ≡ 0) → h.nodes ≤ length zeros
+    → (c₁ c₂ : List ℕ) → c₁ ≡ tally (bodies s.procedures 0 h.procedures) zeros → c₂ ≡ tally (node_references s.nodes 0 h.nodes) c₁
+    → (place : Option ℕ) → place ≡ found (λ n. eqb (get_or c₂ n 0) 1) 0 h.nodes
+    → given 6 (unwrap_or place 0) (is_some place) ≡ reference_refusal h s
 unfolding reference_refusal
-references_refused h procedures nodes zeros z long c₁ c₂ e₁ e₂ place found =
-    let refs = bodies procedures 0 h.procedures ++ node_references nodes 0 h.nodes in
-    let whole : c₂ ≡ tally refs zeros = e₂ ∙ rw e₁ (sym (tally-append (bodies procedures 0 h.procedures) (node_references nodes 0 h.nodes) zeros)) in
+references_refused h s zeros z long c₁ c₂ e₁ e₂ place e =
+    let refs = bodies s.procedures 0 h.procedures ++ node_references s.nodes 0 h.nodes in
+    let whole : c₂ ≡ tally refs zeros = e₂ ∙ rw e₁ (sym (tally-append (bodies s.procedures 0 h.procedures) (node_references s.nodes 0 h.nodes) zeros)) in
     lowest-is 6 (λ n. eqb (occurrences n refs) 1) h.nodes place
-    (found ∙ search-same (λ n. eqb (get_or c₂ n 0) 1) (λ n. eqb (occurrences n refs) 1) 0 h.nodes
+    (e ∙ found-same (λ n. eqb (get_or c₂ n 0) 1) (λ n. eqb (occurrences n refs) 1) 0 h.nodes
     (λ k low high.
     let zero_at : get_or zeros k 0 ≡ 0 = z k in
     let small : get_or zeros k 0 ≤ 2 = omega arith in

@@ -1,59 +1,59 @@
 // Verdict 6, "no tree": every node is referred to exactly once, and stands where it may.
-// Slices are handed on whole, as `&s[..]`: a slice copied as it stands is a pair in memory, and waits there.
 #![tactic(auto)]
 
-ghost use Rattle.std.specs.Prelude.{◌≡◌, not, cond, ◌+◌, ◌≤◌, ◌<◌, eqb, length, get_or, set, replicate};
-ghost use Rattle.rules.specs.Form.{given, search};
-ghost use Rattle.rules.specs.Tree.{is_reference, reference, references_of, node_references, bodies, reference_refusal, marked, handed, handed_on, handed_down, place_refusal, tree_refusal};
-ghost use Rattle.records.specs.Records.{as_header, as_node, as_verdict};
-ghost use Rattle.tree.specs.Parts.{tree_parts};
+ghost use Rattle.std.specs.Prelude.{ℕ, ◌≡◌, unwrap_or, is_some, ◌≤◌, ◌<◌, eqb, get_or, replicate};
+ghost use Rattle.rules.specs.Form.{given};
+ghost use Rattle.rules.specs.Tree.{is_reference, reference, references_of, node_references, bodies, reference_refusal, place_refusal, tree_refusal};
+ghost use Rattle.records.specs.Records.{as_header, as_node};
+ghost use Rattle.records.specs.Parts.{as_parts};
+ghost use Rattle.records.specs.Fields.{class_number};
+ghost use Rattle.records.specs.Refusals.{number_of, as_verdict};
+ghost use Rattle.tree.specs.Search.{found};
 ghost use Rattle.tree.specs.Tally.{bumped, tally};
-ghost use Rattle.tree.specs.Hand.{child_by, handing, AtMost, stands_by, stands_at};
+ghost use Rattle.tree.specs.Places.{nowhere, depths_of, placed, body_placed, bodies_placed, child_placed, children_placed, all_placed, AtMost, stands_by, stands_at};
 
-use records::{Header, RawNode, Verdict};
+use records::{Class, Header, Parts, RawNode, Rule, Verdict};
 
-// The verdict of a search for the lowest place: refused there, or accepted where it passed all.
-pub fn lowest(number: u16, place: u16, count: u16) -> Verdict
-    ensures { as_verdict result ≡ given number place (not (eqb place count)) }
+// The verdict of a search for the lowest place: refused there, or accepted where it found none.
+#[tactic(auto, unfolding(rules::specs::Form::given))]
+pub fn lowest(rule: Rule, place: Option<u16>) -> Verdict
+    ensures { as_verdict result ≡ given (number_of rule) (unwrap_or place 0) (is_some place) }
 {
-    if place == count {
-        Verdict {
-            number: 0,
-            place: 0,
-        }
-    } else {
-        Verdict {
-            number: number,
-            place: place,
-        }
+    match place {
+        Some(place) => Err(rule.at(place)),
+        None => Ok(()),
     }
 }
 
 // Whether a field of this class refers to a node.
-fn is_reference(class: u8) -> bool
-    ensures { result ≡ is_reference class }
+fn is_reference(class: Class) -> bool
+    ensures { result ≡ is_reference (class_number class) }
 {
-    (records::EXPRESSION <= class) & (class <= records::FIRST_STATEMENT)
+    matches!(
+        class,
+        Class::Expression
+            | Class::LValue
+            | Class::Statement
+            | Class::FirstArgument
+            | Class::FirstStatement
+    )
 }
 
 // One reference more to node n: never, once or more. A number past the end, as a missing one, is none.
+#[tactic(auto, unfolding(crate::specs::Tally::bumped, crate::specs::Tally::one_more))]
 fn bump(counts: &mut [u8], n: u16)
     ensures { counts.new ≡ bumped counts.old n }
 {
-    let k = n as usize;
+    let k = usize::from(n);
     if k < counts.len() {
-        let old = counts[k];
-        if old < 2 {
-            counts[k] = old + 1;
-        } else {
-            counts[k] = 2;
-        }
+        counts[k] = counts[k].saturating_add(1).min(2);
     }
 }
 
 // Counts what a field of this class refers to.
-fn count_field(class: u8, v: u16, counts: &mut [u8])
-    ensures { counts.new ≡ tally (reference class v) counts.old }
+#[tactic(auto, unfolding(crate::specs::Tally::tally))]
+fn count_field(class: Class, v: u16, counts: &mut [u8])
+    ensures { counts.new ≡ tally (reference (class_number class) v) counts.old }
 {
     if is_reference(class) {
         bump(counts, v);
@@ -76,206 +76,178 @@ fn count_node(r: RawNode, counts: &mut [u8])
 fn count_nodes(nodes: &[u8], count: u16, counts: &mut [u8])
     ensures { counts.new ≡ tally (node_references nodes.now 0 count) counts.old }
 {
-    let mut n: u16 = 0;
-    while n < count {
-        count_node(records::record_at(&nodes[..], n), counts);
-        n += 1;
+    for n in 0..count {
+        count_node(records::record_at(nodes, n), counts);
     }
 }
 
-// Counts the bodies of the first count procedures.
+// Counts the bodies of the first count procedures. A closure shared with `place_bodies` would be longer than
+// the loop that it saves.
 fn count_bodies(procedures: &[u8], count: u16, counts: &mut [u8])
     ensures { counts.new ≡ tally (bodies procedures.now 0 count) counts.old }
 {
-    let mut p: u16 = 0;
-    while p < count {
-        let r = records::procedure_at(&procedures[..], p);
-        bump(counts, r.body);
-        p += 1;
+    for p in 0..count {
+        bump(counts, records::procedure_at(procedures, p).body);
     }
 }
 
-// The first of the count nodes that is not counted exactly once, or count.
-fn first_not_once(counts: &[u8], count: u16) -> u16
-    ensures { result ≡ search (λ n. eqb (get_or counts.now n 0) 1) 0 count }
+// The first of the count nodes that is not counted exactly once.
+fn first_not_once(counts: &[u8], count: u16) -> Option<u16>
+    ensures { result ≡ found (λ n. eqb (get_or counts.now n 0) 1) 0 count }
 {
-    let mut n: u16 = 0;
-    while n < count {
-        if records::u8_at(&counts[..], n as usize) != 1 {
-            return n;
-        }
-        n += 1;
-    }
-    count
+    (0..count).find(|&n| records::u8_at(counts, usize::from(n)) != 1)
 }
 
 // "first, a node not referred to exactly once (procedure bodies count as references)"
-fn references(h: Header, procedures: &[u8], nodes: &[u8]) -> Verdict
+fn references(h: Header, parts: &Parts) -> Verdict
     requires { h.nodes ≤ 4096 }
-    ensures { as_verdict result ≡ reference_refusal (as_header h) (tree_parts procedures.now nodes.now) }
+    ensures { as_verdict result ≡ reference_refusal (as_header h) (as_parts parts.now) }
 {
     let mut counts = [0u8; 4096];
-    count_bodies(&procedures[..], h.procedures, &mut counts);
-    count_nodes(&nodes[..], h.nodes, &mut counts);
-    lowest(6, first_not_once(&counts, h.nodes), h.nodes)
+    count_bodies(parts.procedures, h.procedures, &mut counts);
+    count_nodes(parts.nodes, h.nodes, &mut counts);
+    lowest(Rule::Tree, first_not_once(&counts, h.nodes))
 }
 
-// The mark of node n.
-fn mark_at(marks: &[u16], n: u16) -> u16
-    ensures { result ≡ get_or marks.now n 0 }
-{
-    let k = n as usize;
-    if k < marks.len() { marks[k] } else { 0 }
+// What is found of a node: whether it is a body, its depth, and whether it is a block's statement or an argument.
+#[derive(Clone, Copy)]
+struct Place {
+    body: bool,
+    depth: u16,
+    chained: bool,
 }
 
-// Marks node n; a number past the end changes nothing.
-fn mark(marks: &mut [u16], n: u16, v: u16)
-    ensures { marks.new ≡ set marks.old n v }
+// The place of a node that nothing has placed.
+const NOWHERE: Place = Place {
+    body: false,
+    depth: 0,
+    chained: false,
+};
+
+// The place of node n.
+fn place_at(places: &[Place], n: u16) -> Place
+    ensures { result ≡ get_or places.now n nowhere }
 {
-    let k = n as usize;
-    if k < marks.len() {
-        marks[k] = v;
+    places.get(usize::from(n)).copied().unwrap_or(NOWHERE)
+}
+
+// Makes node n a body; a number past the end changes nothing.
+#[tactic(auto, unfolding(crate::specs::Places::body_placed))]
+fn place_body(places: &mut [Place], n: u16)
+    ensures { places.new ≡ body_placed places.old n }
+{
+    let k = usize::from(n);
+    if k < places.len() {
+        places[k] = Place {
+            body: true,
+            depth: 1,
+            chained: places[k].chained,
+        };
     }
 }
 
-// Marks the bodies of the first count procedures.
-fn mark_bodies(procedures: &[u8], count: u16, marks: &mut [u16])
-    ensures { marks.new ≡ marked 1 (bodies procedures.now 0 count) marks.old }
+// Places node n as its parent says; a number past the end changes nothing.
+#[tactic(auto, unfolding(crate::specs::Places::placed))]
+fn place_node(places: &mut [Place], n: u16, depth: u16, chained: bool)
+    ensures { places.new ≡ placed places.old n depth chained }
 {
-    let mut p: u16 = 0;
-    while p < count {
-        let r = records::procedure_at(&procedures[..], p);
-        mark(marks, r.body, 1);
-        p += 1;
+    let k = usize::from(n);
+    if k < places.len() {
+        places[k] = Place {
+            body: places[k].body,
+            depth,
+            chained,
+        };
     }
 }
 
-// Hands a mark to what a field of this class refers to: `first` to the first of a chain, `plain` to another.
-fn hand(class: u8, v: u16, plain: u16, first: u16, marks: &mut [u16])
-    ensures { marks.new ≡ handed (child_by plain first) 0 class v marks.old }
+// Places the bodies of the first count procedures.
+fn place_bodies(procedures: &[u8], count: u16, places: &mut [Place])
+    ensures { places.new ≡ bodies_placed procedures.now 0 count places.old }
 {
-    if is_reference(class) {
-        if (class == records::FIRST_ARGUMENT) | (class == records::FIRST_STATEMENT) {
-            mark(marks, v, first);
-        } else {
-            mark(marks, v, plain);
-        }
+    for p in 0..count {
+        place_body(places, records::procedure_at(procedures, p).body);
     }
 }
 
-// Hands a node's own mark on: to its children by their class, to next the same.
-fn hand_on(r: RawNode, own: u16, plain: u16, first: u16, marks: &mut [u16])
-    ensures { marks.new ≡ handed_on (child_by plain first) (as_node r) own marks.old }
+// Places what a field of this class refers to: a child is one deeper than its parent.
+#[tactic(auto, unfolding(crate::specs::Places::child_placed))]
+fn place_child(class: Class, v: u16, own: Place, places: &mut [Place])
+    requires { own.depth < 65535 }
+    ensures { places.new ≡ child_placed own (class_number class) v places.old }
+{
+    let depth = own.depth + 1;
+    match class {
+        Class::FirstArgument | Class::FirstStatement => place_node(places, v, depth, true),
+        Class::Expression | Class::LValue | Class::Statement => place_node(places, v, depth, false),
+        _ => {}
+    }
+}
+
+// Places what a node at this place refers to: its children by their class, and next as the node itself.
+fn place_children(r: RawNode, own: Place, places: &mut [Place])
+    requires { own.depth < 65535 }
+    ensures { places.new ≡ children_placed own (as_node r) places.old }
 {
     let classes = records::classes_of(r.kind);
-    hand(classes.a, r.a, plain, first, marks);
-    hand(classes.b, r.b, plain, first, marks);
-    hand(classes.c, r.c, plain, first, marks);
-    hand(classes.d, r.d, plain, first, marks);
-    mark(marks, r.next, own);
+    place_child(classes.a, r.a, own, places);
+    place_child(classes.b, r.b, own, places);
+    place_child(classes.c, r.c, own, places);
+    place_child(classes.d, r.d, own, places);
+    place_node(places, r.next, own.depth, own.chained);
 }
 
-// What a child is handed: one more than its parent where depths are handed down, else the number given.
-fn child_mark(deepens: bool, own: u16, other: u16) -> u16
-    requires { own < 65535 }
-    ensures { result ≡ cond deepens (own + 1) other }
+// Places what the first count nodes refer to, in the order of the nodes.
+fn place_all(nodes: &[u8], count: u16, places: &mut [Place])
+    requires { (count ≤ 4096) × AtMost (depths_of places.old) 1 }
+    ensures { places.new ≡ all_placed nodes.now 0 count places.old }
 {
-    if deepens { own + 1 } else { other }
-}
-
-// Hands the marks of the first count nodes down, in the order of the nodes: depths, or else which nodes are chained.
-fn hand_down(nodes: &[u8], count: u16, deepens: bool, marks: &mut [u16])
-    requires { (count ≤ 4096) × AtMost marks.old 1 }
-    ensures { marks.new ≡ handed_down (handing deepens) nodes.now 0 count marks.old }
-{
-    let mut n: u16 = 0;
-    while n < count {
-        let own = mark_at(marks, n);
-        let plain = child_mark(deepens, own, 0);
-        let first = child_mark(deepens, own, 1);
-        hand_on(records::record_at(&nodes[..], n), own, plain, first, marks);
-        n += 1;
+    for n in 0..count {
+        let own = place_at(places, n);
+        place_children(records::record_at(nodes, n), own, places);
     }
 }
 
 // "a body that is no statement, a depth over 32, or a next on a node that is neither a block's statement nor an argument"
-fn stands(body: u16, depth: u16, chain: u16, r: RawNode) -> bool
-    ensures { result ≡ stands_by (eqb body 1) depth chain (as_node r) }
+fn stands(place: Place, r: RawNode) -> bool
+    ensures { result ≡ stands_by place (as_node r) }
 {
-    let statement = (1 <= r.kind) & (r.kind <= 9);
-    ((body != 1) | statement) & ((depth <= 32) & ((r.next == 65535) | (chain == 1)))
+    (!place.body || r.is_statement())
+        && place.depth <= 32
+        && (r.next == records::MISSING || place.chained)
 }
 
-// The first of the count nodes that does not stand in the tree, or count.
-fn first_out_of_place(nodes: &[u8], count: u16, body: &[u16], depths: &[u16], chains: &[u16]) -> u16
-    ensures { result ≡ search (stands_at nodes.now body.now depths.now chains.now) 0 count }
+// The first of the count nodes that does not stand in the tree.
+fn first_out_of_place(nodes: &[u8], count: u16, places: &[Place]) -> Option<u16>
+    ensures { result ≡ found (stands_at nodes.now places.now) 0 count }
 {
-    let mut n: u16 = 0;
-    while n < count {
-        let r = records::record_at(&nodes[..], n);
-        if !stands(
-            mark_at(&body[..], n),
-            mark_at(&depths[..], n),
-            mark_at(&chains[..], n),
-            r,
-        ) {
-            return n;
-        }
-        n += 1;
-    }
-    count
+    (0..count).find(|&n| !stands(place_at(places, n), records::record_at(nodes, n)))
 }
 
-// "then" the places: the marks begin at 0, one for each node.
-fn places_by(
-    h: Header,
-    procedures: &[u8],
-    nodes: &[u8],
-    body: &mut [u16],
-    depths: &mut [u16],
-    chains: &mut [u16],
-) -> Verdict
-    requires { (h.nodes ≤ 4096) × (body.old ≡ replicate h.nodes 0) × (depths.old ≡ replicate h.nodes 0) × (chains.old ≡ replicate h.nodes 0) }
-    ensures { as_verdict result ≡ place_refusal (as_header h) (tree_parts procedures.now nodes.now) }
+// "then" the places: they begin nowhere, one for each node.
+fn places_by(h: Header, parts: &Parts, places: &mut [Place]) -> Verdict
+    requires { (h.nodes ≤ 4096) × (places.old ≡ replicate h.nodes nowhere) }
+    ensures { as_verdict result ≡ place_refusal (as_header h) (as_parts parts.now) }
 {
-    mark_bodies(&procedures[..], h.procedures, body);
-    mark_bodies(&procedures[..], h.procedures, depths);
-    hand_down(&nodes[..], h.nodes, true, depths);
-    hand_down(&nodes[..], h.nodes, false, chains);
-    lowest(
-        6,
-        first_out_of_place(&nodes[..], h.nodes, body, depths, chains),
-        h.nodes,
-    )
+    place_bodies(parts.procedures, h.procedures, places);
+    place_all(parts.nodes, h.nodes, places);
+    lowest(Rule::Tree, first_out_of_place(parts.nodes, h.nodes, places))
 }
 
-// The places, with marks of its own.
-fn places(h: Header, procedures: &[u8], nodes: &[u8]) -> Verdict
+// The places, in room of its own.
+fn places(h: Header, parts: &Parts) -> Verdict
     requires { h.nodes ≤ 4096 }
-    ensures { as_verdict result ≡ place_refusal (as_header h) (tree_parts procedures.now nodes.now) }
+    ensures { as_verdict result ≡ place_refusal (as_header h) (as_parts parts.now) }
 {
-    let count = h.nodes as usize;
-    let mut body = [0u16; 4096];
-    let mut depths = [0u16; 4096];
-    let mut chains = [0u16; 4096];
-    places_by(
-        h,
-        &procedures[..],
-        &nodes[..],
-        &mut body[..count],
-        &mut depths[..count],
-        &mut chains[..count],
-    )
+    let mut places = [NOWHERE; 4096];
+    places_by(h, parts, &mut places[..usize::from(h.nodes)])
 }
 
 // 6: "no tree".
-pub fn tree(h: Header, procedures: &[u8], nodes: &[u8]) -> Verdict
+pub fn tree(h: Header, parts: &Parts) -> Verdict
     requires { h.nodes ≤ 4096 }
-    ensures { as_verdict result ≡ tree_refusal (as_header h) (tree_parts procedures.now nodes.now) }
+    ensures { as_verdict result ≡ tree_refusal (as_header h) (as_parts parts.now) }
 {
-    let v = references(h, &procedures[..], &nodes[..]);
-    if v.number != 0 {
-        return v;
-    }
-    places(h, &procedures[..], &nodes[..])
+    references(h, parts)?;
+    places(h, parts)
 }

@@ -1,14 +1,14 @@
 // The verdict program: an image on standard input, one line out, `verdict`, number and place.
-// The buffer is one byte longer than the longest image, so that a longer input is seen to be too long.
 #![tactic(auto)]
 
+use output::Output;
+use std::fmt::Write;
+
+// The buffer is one byte longer than the longest image, so that a longer input is seen to be too long.
+// Input is read by the kit's `io` for the reason that `output` has.
 fn main() {
     let mut buffer = io::large_buffer();
     let read = io::read_full(0, &mut buffer);
-    let verdict = checker::check(&buffer[..read]);
-    io::write_all(1, b"verdict ");
-    io::print_decimal(1, verdict.number as u64);
-    io::write_all(1, b" ");
-    io::print_decimal(1, verdict.place as u64);
-    io::write_all(1, b"\n");
+    let (number, place) = records::numbers(checker::check(&buffer[..read]));
+    let _ = writeln!(Output, "verdict {number} {place}");
 }

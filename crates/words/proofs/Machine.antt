@@ -1,7 +1,5 @@
--- What the machine's operations, which cut at 64 bits, give at a size of z bits, and the product by halves. The laws hold at any
--- width w; the code's is 64.
-use Rattle.std.proofs.Common.{◌≡◌, ℕ, zero, suc, ◌+◌, ◌-◌, ◌*◌, ◌/◌, ◌%◌, ◌^◌, ◌<◌, ◌≤◌, sym, ap, ◌∙◌, lt_of_le_of_lt, le_of_lt, add_assoc, mod-lt, mod-eq_of_lt, mul_assoc, mul_comm, add-mul, add_comm, mul-le-mul_left, div-add-mod', zero-add, zero-mul, mul-add, sub-add_cancel, div-one, mul_left_comm, arith, lit<, pow_pos, pow-add, shl_lt, shl_exact, shr-shr}
-use native.Mathlib.Nat.{add_left_comm}
+-- What the machine's operations, which cut at 64 bits, give at a size of z bits. The laws hold at any width w; the code's is 64.
+use Rattle.std.proofs.Common.{◌≡◌, ℕ, zero, suc, ◌+◌, ◌-◌, ◌*◌, ◌/◌, ◌%◌, ◌^◌, ◌<◌, ◌≤◌, sym, ap, ◌∙◌, mod-lt, mod-eq_of_lt, zero-add, zero-mul, sub-add_cancel, div-one, arith, lit<, pow_pos, pow-add, shl_exact, shr-shr}
 use native.Mathlib.Nat.{two-pow-succ}
 use native.Mathlib.Nat.{mod-one, add-mod, mod-add-mod, add-mod-mod, add-mul-mod_self_right}
 use lib.Pow.{high, ones_lt, ones_split, mod-mod-pow}
@@ -66,35 +64,3 @@ left_by_shifts z r x w h within =
 pub right_by_none : (z x : ℕ) → rotated_right z 0 x ≡ x
 unfolding rotated_right
 right_by_none z x = simp (mod-one, div-one, zero-mul, zero-add)
-
--- The product of two numbers of k bits.
-pub product_fits : (k : ℕ) {a b : ℕ} → a < 2 ^ k → b < 2 ^ k → a * b < 2 ^ (k + k)
-product_fits k {a} ha hb = lt_of_le_of_lt (mul-le-mul_left a (le_of_lt hb)) (shl_lt k k ha)
-
--- A factor may be cut first.
-factor_cut : (a b m : ℕ) → a % m * b % m ≡ a * b % m
-factor_cut a b m =
-    sym (add-mul-mod_self_right (a % m * b) (a / m * b) m)
-    ∙ ap (λ n. n % m) (grouped ∙ ap (λ n. n * b) (div-add-mod' a m))
-  where
-    grouped : a % m * b + a / m * b * m ≡ (a / m * m + a % m) * b
-    grouped = simp (add-mul, mul_assoc, mul_comm, mul_left_comm, add_comm)
-
--- The product of two numbers of two digits in base p, modulo p * p, where each sum and each shift is cut.
-module _ (p : ℕ) where
-  digits : (a₀ a₁ b₀ b₁ : ℕ) → (a₀ * b₀ + (a₁ * b₀ + a₀ * b₁) * p) % (p * p) ≡ (a₁ * p + a₀) * (b₁ * p + b₀) % (p * p)
-  digits a₀ a₁ b₀ b₁ =
-      sym (add-mul-mod_self_right (a₀ * b₀ + (a₁ * b₀ + a₀ * b₁) * p) (a₁ * b₁) (p * p))
-      ∙ ap (λ n. n % (p * p)) grouped
-    where
-      grouped : a₀ * b₀ + (a₁ * b₀ + a₀ * b₁) * p + a₁ * b₁ * (p * p) ≡ (a₁ * p + a₀) * (b₁ * p + b₀)
-      grouped = simp (mul-add, add-mul, mul_assoc, mul_comm, mul_left_comm, add_assoc, add_comm, add_left_comm)
-
-  pub product : (a b : ℕ)
-      → (a % p * (b % p) + (a / p * (b % p) + a % p * (b / p)) % (p * p) * p % (p * p)) % (p * p) ≡ a * b % (p * p)
-  product a b =
-      let crossed = a / p * (b % p) + a % p * (b / p) in
-      ap (λ n. (a % p * (b % p) + n) % (p * p)) (factor_cut crossed p (p * p))
-      ∙ add-mod-mod (a % p * (b % p)) (crossed * p) (p * p)
-      ∙ digits (a % p) (a / p) (b % p) (b / p)
-      ∙ rw (div-add-mod' a p, div-add-mod' b p)

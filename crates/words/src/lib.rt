@@ -1,6 +1,6 @@
 // The word arithmetic of a run: what each operator of an expression gives, what each update leaves in a cell of z bits, and a
 // conditional exchange. Each contract is one equation with the definition of `rules`, by the operator's name there.
-#![tactic(auto)]
+#![tactic(auto, unfolding(rules::specs::Words::operate, rules::specs::Words::operate1, rules::specs::Words::truth, rules::specs::Words::divides, rules::specs::Words::changed_by, rules::specs::Words::undoing, rules::specs::Words::exchanged,))]
 
 ghost use Rattle.std.specs.Prelude.{◌≡◌, ◌%◌, ◌^◌, ◌<◌, ◌≤◌, true, ◌&&◌, ◌==◌};
 ghost use Rattle.rules.specs.Words.{plus, minus, times, quotient, remainder, conjunction, disjunction, exclusive};
@@ -14,29 +14,19 @@ ghost use Rattle.rules.specs.Words.{exchanged};
 pub fn plus(a: u64, b: u64) -> u64
     ensures { result ≡ operate plus a b }
 {
-    std::num::wrapping_add_u64(a, b)
+    a.wrapping_add(b)
 }
 
 pub fn minus(a: u64, b: u64) -> u64
     ensures { result ≡ operate minus a b }
 {
-    if b <= a {
-        a - b
-    } else {
-        a + (u64::MAX - b) + 1
-    }
+    a.wrapping_sub(b)
 }
 
-// By halves of 32 bits: the product of the two high halves is a multiple of 2^64 and is left out.
 pub fn times(a: u64, b: u64) -> u64
     ensures { result ≡ operate times a b }
 {
-    let a_high = a >> 32;
-    let a_low = a % 4294967296;
-    let b_high = b >> 32;
-    let b_low = b % 4294967296;
-    let crossed = plus(a_high * b_low, a_low * b_high);
-    plus(a_low * b_low, crossed << 32)
+    a.wrapping_mul(b)
 }
 
 pub fn quotient(a: u64, b: u64) -> u64
@@ -120,6 +110,7 @@ pub fn at_least(a: u64, b: u64) -> u64
     truth_word(a >= b)
 }
 
+// `checked_shl` takes a u32, to which b would be cut.
 pub fn shift_left(a: u64, b: u64) -> u64
     ensures { result ≡ operate shift_left a b }
 {
@@ -136,21 +127,19 @@ pub fn shift_right(a: u64, b: u64) -> u64
 fn is_division(op: u8) -> bool
     ensures { result ≡ divides (binary_of op) }
 {
-    match op {
-        4 => true,
-        5 => true,
-        _ => false,
-    }
+    matches!(op, 4 | 5)
 }
 
 // Would the operator of that number divide by 0? Where not, `divisor` of numbers/Laws has what `binary` requires.
 pub fn zero_divisor(op: u8, b: u64) -> bool
     ensures { result ≡ (b == 0 && divides (binary_of op)) }
 {
-    if b == 0 { is_division(op) } else { false }
+    b == 0 && is_division(op)
 }
 
-// The operator of that number in a node. No node of an accepted image has a number that no arm names.
+// The operator of that number in a node. No node of an accepted image has a number that no arm names. The number stays a `u8`, since
+// the contract speaks of every u8; 1 has its own arm beside `_`, so that the table has all sixteen.
+#[tactic(auto)]
 pub fn binary(op: u8, a: u64, b: u64) -> u64
     requires { divides (binary_of op) ≡ true → 0 < b }
     ensures { result ≡ operate (binary_of op) a b }
@@ -176,7 +165,8 @@ pub fn binary(op: u8, a: u64, b: u64) -> u64
     }
 }
 
-// Updates of a cell of z bits: x is what it has, v the update's value
+// Updates of a cell of z bits: x is what it has, v the update's value. z is a `u64` with its bounds in each clause: a type of sizes would
+// be narrower than what these functions take.
 
 // The z low bits of x: the mask has as many ones.
 pub fn cut(x: u64, z: u64) -> u64
@@ -244,7 +234,7 @@ pub fn rotate_right(x: u64, v: u64, z: u64) -> u64
     }
 }
 
-// The update of that number in a node.
+// The update of that number in a node: a `u8`, as at `binary`.
 pub fn updated(op: u8, x: u64, v: u64, z: u64) -> u64
     requires { (0 < z) × (z ≤ 64) }
     ensures { result ≡ changed_by (update_of op) z v x }
@@ -259,7 +249,7 @@ pub fn updated(op: u8, x: u64, v: u64, z: u64) -> u64
     }
 }
 
-// The number of the update that undoes that one.
+// The number of the update that undoes that one: a `u8`, as at `binary`.
 pub fn undoing_op(op: u8) -> u8
     ensures { (update_of result ≡ undoing (update_of op)) × (1 ≤ result) × (result ≤ 5) }
 {
@@ -275,24 +265,9 @@ pub fn undoing_op(op: u8) -> u8
 
 // A conditional exchange
 
-#[derive(Clone, Copy)]
-pub struct Pair {
-    pub first: u64,
-    pub second: u64,
-}
-
-pub fn exchange(condition: u64, a: u64, b: u64) -> Pair
-    ensures { (result.first ≡ exchanged condition a b) × (result.second ≡ exchanged condition b a) }
+// What two cells have afterwards: any condition but 0 exchanges them.
+pub fn exchange(condition: u64, a: u64, b: u64) -> (u64, u64)
+    ensures { (result.0 ≡ exchanged condition a b) × (result.1 ≡ exchanged condition b a) }
 {
-    if condition == 0 {
-        Pair {
-            first: a,
-            second: b,
-        }
-    } else {
-        Pair {
-            first: b,
-            second: a,
-        }
-    }
+    if condition == 0 { (a, b) } else { (b, a) }
 }

@@ -1,19 +1,28 @@
 -- The form's verdict where it refuses, else the walk's.
-use mathlib.Core.Path.{sym, ap, subst, ◌∙◌}
-use lib.ListN.{length}
-use Rattle.rules.specs.Image.{Header}
+use Rattle.std.proofs.Common.{rules, sym, ap, ◌∙◌}
+use Rattle.rules.specs.Image as image
 use Rattle.rules.specs.Form as form
-use Rattle.tree.specs.Search.{then_stops, then_goes}
+use Rattle.rules.specs.Walk.{walk_refusal}
+use Rattle.rules.specs.Check.{slow}
+use Rattle.records.specs.Parts.{as_parts}
+use Rattle.records.specs.Refusals.{then-stops}
+use Rattle.tree.specs.Search.{then-on}
 use Rattle.form.specs.Formed.{formed}
-use Rattle.form.specs.Layout.{Laid}
-use Rattle.checker.specs.Prepared.{verdict-is}
+use Rattle.checker.specs.Prepared.{prepared_by, verdict-is}
 use Rattle.checker.proofs.check.Goals as goal
 
-pub returns-then-form-ne0 : goal.returns-then-form-ne0
-returns-then-form-ne0 c = then_stops _ _ c.form-form.ensures _ c.if-form-ne0.true ∙ sym (verdict-is _)
+pub returns-in_err-form : goal.returns-in_err-form
+returns-in_err-form c =
+    let e = c.in_err-form.ensures in
+    search (rules, then-stops) ∙ sym (verdict-is c.args.image.now)
 
-pub walked-requires : goal.walked-requires
-walked-requires c = let f = formed _ (sym (ap (λ (v : form.Verdict). v.number) c.form-form.ensures) ∙ c.if-form-ne0.false) in (f, c.header_of.ensures, subst (λ (x : Header). Laid x (length c.args.image.now)) (sym c.header_of.ensures) f.laid_out)
+pub walk-requires : goal.walk-requires
+walk-requires c = prepared_by c.args.image.now (formed c.args.image.now (sym (ap (λ (v : form.Verdict). v.number) c.in_ok-form.ensures))) _ _ c.header_of.ensures c.parts_of.ensures
 
 pub returns : goal.returns
-returns c = then_goes _ _ c.form-form.ensures _ c.if-form-ne0.false _ c.walked.ensures ∙ sym (verdict-is _)
+returns c =
+    then-on _ _ _ c.in_ok-form.ensures
+    (c.walk.ensures
+    ∙ ap (λ (h : image.Header). walk_refusal slow h (as_parts c.parts_of.result) 0 h.procedures) c.header_of.ensures
+    ∙ ap (λ (s : image.Parts). walk_refusal slow (image.header_of c.args.image.now) s 0 (image.header_of c.args.image.now).procedures) c.parts_of.ensures)
+    ∙ sym (verdict-is c.args.image.now)

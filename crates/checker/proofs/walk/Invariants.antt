@@ -1,13 +1,11 @@
-use Prim.Native.Nat.{◌-◌, ◌≤◌}
+use Prim.Native.Nat.{◌-◌}
 use mathlib.Core.Path.{◌≡◌}
-use Rattle.rules.specs.Image.{Header, Parts}
 use Rattle.rules.specs.Walk.{walk_refusal}
 use Rattle.rules.specs.Check.{slow}
-use Rattle.checker.specs.Prepared.{Prepared}
+use Rattle.records.specs.Records.{as_header}
+use Rattle.records.specs.Parts.{as_parts}
 use Rattle.checker.proofs.walk.Given as goal
 
 abbrev pub invariant-loop-p : goal.invariant-loop-p
-invariant-loop-p l = (l.p ≤ l.count) × ((h : Header) (s : Parts) → Prepared l.nodes l.variables l.procedures l.count h s → walk_refusal slow h s 0 l.count ≡ walk_refusal slow h s l.p (l.count - l.p))
-
-abbrev pub decreases-loop-p : goal.decreases-loop-p
-decreases-loop-p l = l.count - l.p
+invariant-loop-p l =
+    walk_refusal slow (as_header l.h) (as_parts l.parts) 0 l.h.procedures ≡ walk_refusal slow (as_header l.h) (as_parts l.parts) l.p (l.h.procedures - l.p)

@@ -1,27 +1,17 @@
 -- An if: its condition is worked out, and the branch that it chooses is left.
+use Rattle.expressions.specs.Results.{passed_on}
 use Rattle.executors.specs.Leaves.{first_refused, if_not, if_so}
 use Rattle.executors.proofs.decided.Goals as goal
 
-pub returns-then-refusal-ne0 : goal.returns-then-refusal-ne0
-returns-then-refusal-ne0 c =
-    record {
-      by_index = λ n a b. tt;
-      decides = λ procedures w p n d ρ st within a b.
-          first_refused w st d _ _ _ _ _ _ _ within (c.value-v.ensures w.h w.s w.program) c.after-on.ensures c.if-refusal-ne0.true _;
-    }
+pub returns-in_err-v-clause-decides : goal.returns-in_err-v-clause-decides
+returns-in_err-v-clause-decides c =
+    λ w p n d ρ st within a b.
+    rw (passed_on _ c.from_residual.ensures.1, c.value.ensures.same.1) (first_refused w st _ _ within _ (rw c.in_err-v.was at (c.value.ensures.finds w.h w.s w.program)) _)
 
-pub returns-then-answer-eq0 : goal.returns-then-answer-eq0
-returns-then-answer-eq0 c =
-    record {
-      by_index = λ n a b. b;
-      decides = λ procedures w p n d ρ st within a b.
-          (b, if_not w st d _ _ _ _ _ _ _ within (c.value-v.ensures w.h w.s w.program) c.after-on.ensures c.if-refusal-ne0.false _ _ c.if-answer-eq0.true);
-    }
+pub returns-then-v-eq0-clause-decides : goal.returns-then-v-eq0-clause-decides
+returns-then-v-eq0-clause-decides c =
+    λ w p n d ρ st within a b. (b, rw c.value.ensures.same.1 (if_not w st _ _ within _ (rw c.in_ok-v.was at (c.value.ensures.finds w.h w.s w.program)) d _ _ c.if-v-eq0.true))
 
-pub returns : goal.returns
-returns c =
-    record {
-      by_index = λ n a b. a;
-      decides = λ procedures w p n d ρ st within a b.
-          (a, if_so w st d _ _ _ _ _ _ _ within (c.value-v.ensures w.h w.s w.program) c.after-on.ensures c.if-refusal-ne0.false _ _ c.if-answer-eq0.false);
-    }
+pub returns-clause-decides : goal.returns-clause-decides
+returns-clause-decides c =
+    λ w p n d ρ st within a b. (a, rw c.value.ensures.same.1 (if_so w st _ _ within _ (rw c.in_ok-v.was at (c.value.ensures.finds w.h w.s w.program)) d _ _ c.if-v-eq0.false))

@@ -1,22 +1,28 @@
--- One test after another; an accepted layout gives the bounds of the parts.
-use Rattle.records.specs.Records.{as_header}
-use Rattle.tree.specs.Search.{then_stops, then_goes}
-use Rattle.form.specs.Layout.{laid_by, layout_is, form_is}
+-- One test after another; an accepted layout says how many nodes there are at most.
+use Rattle.std.proofs.Common.{rules, refl, ◌∙◌, ap}
+use Rattle.rules.specs.Image as image
+use Rattle.rules.specs.Check.{form_refusal}
+use Rattle.records.specs.Parts.{as_parts}
+use Rattle.records.specs.Refusals.{then-stops}
+use Rattle.tree.specs.Search.{then-on}
+use Rattle.form.specs.Layout.{laid_by, layout_is}
 use Rattle.form.proofs.form.Goals as goal
 
-pub returns-then-first-ne0 : goal.returns-then-first-ne0
-returns-then-first-ne0 c = then_stops _ _ c.format-first.ensures _ c.if-first-ne0.true
+pub returns-in_err-format : goal.returns-in_err-format
+returns-in_err-format c = search (rules, then-stops)
 
-pub returns-then-second-ne0 : goal.returns-then-second-ne0
-returns-then-second-ne0 c =
-    then_goes _ _ c.format-first.ensures _ c.if-first-ne0.false _
-    (then_stops _ _ (layout_is c.args.image.now _ c.header_of-h.ensures _ c.layout-second.ensures) _ c.if-second-ne0.true)
+pub returns-in_err-layout : goal.returns-in_err-layout
+returns-in_err-layout c =
+    let e = layout_is c.args.image.now _ c.header_of-h.ensures _ c.in_err-layout.ensures in
+    then-on _ _ _ c.in_ok-format.ensures (search (rules, then-stops))
 
-pub laid_form-requires : goal.laid_form-requires
-laid_form-requires c = laid_by _ _ _ c.layout-second.ensures c.if-second-ne0.false
+pub parts_form-requires : goal.parts_form-requires
+parts_form-requires c = (laid_by _ _ _ c.in_ok-layout.ensures refl).few_nodes
 
 pub returns : goal.returns
 returns c =
-    then_goes _ _ c.format-first.ensures _ c.if-first-ne0.false _
-    (then_goes _ _ (layout_is c.args.image.now _ c.header_of-h.ensures _ c.layout-second.ensures) _ c.if-second-ne0.false _
-    (form_is c.args.image.now (as_header c.header_of-h.result) c.header_of-h.ensures _ c.laid_form.ensures))
+    then-on _ _ _ c.in_ok-format.ensures
+    (then-on _ _ _ (layout_is c.args.image.now _ c.header_of-h.ensures _ c.in_ok-layout.ensures)
+    (c.parts_form.ensures
+    ∙ ap (λ (h : image.Header). form_refusal h (as_parts c.parts_of.result)) c.header_of-h.ensures
+    ∙ ap (λ (s : image.Parts). form_refusal (image.header_of c.args.image.now) s) c.parts_of.ensures))

@@ -1,11 +1,12 @@
 -- The owner's record, put into the definition's test.
-use mathlib.Core.Path.{ap}
-use Prim.Native.Nat.{◌+◌}
-use lib.Dec.{ltb}
+use Rattle.std.proofs.Common.{ap}
 use Rattle.rules.specs.Image as rules
 use Rattle.rules.specs.Form.{is_parameter}
 use Rattle.form.proofs.is_parameter.Goals as goal
 
 pub returns : goal.returns
 unfolding is_parameter
-returns c = rw (← c.owner-p.ensures) (ap (λ (r : rules.Procedure). ltb c.args.x (r.first + r.parameters)) c.procedure_at-r.ensures)
+returns c =
+    let first = ap (λ (r : rules.Procedure). r.first) c.procedure_at-r.ensures in
+    let parameters = ap (λ (r : rules.Procedure). r.parameters) c.procedure_at-r.ensures in
+    cc

@@ -1,24 +1,13 @@
--- A search: every procedure before p ends at x or before.
-use mathlib.Core.Path.{sym, ap, ◌∙◌}
-use Prim.Native.Nat.{◌+◌}
-use borrow.Author.Tests.{lt-leb, le-leb}
-use lib.Dec.{leb}
-use Rattle.rules.specs.Image as rules
-use Rattle.tree.specs.Search.{search-next, search-found, search-none}
+-- The library's search, by what its test says of one record.
+use Rattle.std.proofs.Common.{rules, ℕ, ◌+◌, leb, arith}
+use Rattle.tree.specs.Search.{end-of}
+use Rattle.tree.proofs.Ranges.{found-range}
+use Rattle.rules.specs.Image.{procedure_of}
 use Rattle.rules.specs.Form.{owner}
 use Rattle.form.proofs.owner.Goals as goal
 
-pub returns-then-x-r : goal.returns-then-x-r
-unfolding owner
-returns-then-x-r c =
-    search-found _ _ _ c.loop-p.invariant c.loop-p-test.true
-    (sym (ap (λ (r : rules.Procedure). leb (r.first + r.count) c.args.x) c.procedure_at-r.ensures) ∙ lt-leb _ _ c.if-x-r.true)
-
-pub loop-p-preserved : goal.loop-p-preserved
-loop-p-preserved c =
-    search-next _ _ _ c.loop-p.invariant c.loop-p-test.true
-    (sym (ap (λ (r : rules.Procedure). leb (r.first + r.count) c.args.x) c.procedure_at-r.ensures) ∙ le-leb _ _ c.if-x-r.false)
-
 pub returns : goal.returns
 unfolding owner
-returns c = search-none _ _ _ c.loop-p.invariant c.loop-p-test.false
+returns c =
+    let passes = λ (p : ℕ). leb ((procedure_of c.args.procedures.now p).first + (procedure_of c.args.procedures.now p).count) c.args.x in
+    end-of passes c.args.h.procedures _ (found-range passes c.args.h.procedures _ _ _ _ (omega arith) c.find.ensures.ran (λ n q h. search rules) (λ n q h. search rules))

@@ -1,30 +1,19 @@
--- Along the chain to the first root that is marked.
-use mathlib.Core.Path.{refl, sym, ◌∙◌}
-use native.Mathlib.Omega.{arith}
+-- Along the chain to the first root that is among the names.
 use Rattle.names.specs.Marks.{touches_none, touches_first, touches_later}
-use Rattle.names.specs.Chains.{chain_standing, no_other, no_roots, first_root, argument_small, later_arguments, known_arguments, argument_ahead}
+use Rattle.names.specs.Chains.{head_small, head_roots, end_roots}
 use Rattle.names.proofs.+roots_marked.Goals as goal
 
-pub returns-then-n-eq65535 : goal.returns-then-n-eq65535
-returns-then-n-eq65535 t c = λ h s k. rw (no_roots k c.if-n-eq65535.true) touches_none
-
 pub returns-in_default : goal.returns-in_default
-returns-in_default t c = λ h s k. absurd (no_other (chain_standing k c.if-n-eq65535.false) (sym c.lvalue_at.ensures ∙ c.in_default.is))
+returns-in_default t c = λ h s k. rw (end_roots c.in_default.ensures k) touches_none
 
-pub returns-then-is_marked : goal.returns-then-is_marked
-returns-then-is_marked t c =
+pub returns-then-contains : goal.returns-then-contains
+returns-then-contains t c =
     λ h s k.
-    let st = chain_standing k c.if-n-eq65535.false in
-    let d = sym c.lvalue_at.ensures ∙ c.in-Place.is in
-    rw (first_root st d c.root_of.ensures refl) (touches_first (argument_small st d c.root_of.ensures) c.is_marked.ensures c.if-is_marked.true)
+    let g = c.in-Some.ensures.head h s k in
+    rw (head_roots g, ← c.root.ensures, c.if-contains.true) (touches_first (rw c.root.ensures (head_small g)) c.contains.ensures.tells c.if-contains.true)
 
-pub roots_marked-requires : goal.roots_marked-requires
-roots_marked-requires t c = (omega (arith, c.decreases, argument_ahead c.requires c.if-n-eq65535.false c.next_at.ensures), known_arguments c.requires c.if-n-eq65535.false c.next_at.ensures)
-
-pub returns : goal.returns
-returns t c =
+pub returns-else-contains : goal.returns-else-contains
+returns-else-contains t c =
     λ h s k.
-    let st = chain_standing k c.if-n-eq65535.false in
-    let d = sym c.lvalue_at.ensures ∙ c.in-Place.is in
-    rw (first_root st d c.root_of.ensures c.next_at.ensures)
-    (touches_later (argument_small st d c.root_of.ensures) c.is_marked.ensures c.if-is_marked.false (c.roots_marked.ensures h s (later_arguments st c.next_at.ensures)))
+    let g = c.in-Some.ensures.head h s k in
+    rw (head_roots g, ← c.root.ensures) (touches_later (rw c.root.ensures (head_small g)) c.contains.ensures.tells c.if-contains.false (c.roots_marked.ensures h s g.rest))

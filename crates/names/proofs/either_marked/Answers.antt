@@ -2,8 +2,11 @@
 use Rattle.names.specs.Marks.{touches_here, touches_later, touches_one}
 use Rattle.names.proofs.either_marked.Goals as goal
 
-pub returns-then-is_marked : goal.returns-then-is_marked
-returns-then-is_marked c = λ l k. rw (← c.root_of.ensures) (touches_here (rw c.root_of.ensures l) c.is_marked.ensures c.if-is_marked.true)
+pub returns-then-contains : goal.returns-then-contains
+returns-then-contains c = λ l k. rw (← c.root.ensures) (touches_here (rw c.root.ensures l) c.contains.ensures.tells c.if-contains.true)
 
-pub returns-else-is_marked : goal.returns-else-is_marked
-returns-else-is_marked c = λ l k. rw (← c.root_of.ensures, ← c.root_of-else-is_marked.ensures) (touches_later (rw c.root_of.ensures l) c.is_marked.ensures c.if-is_marked.false (touches_one (rw c.root_of-else-is_marked.ensures k) c.is_marked-else-is_marked.ensures))
+pub returns-else-contains : goal.returns-else-contains
+returns-else-contains c =
+    λ l k.
+    rw (← c.root.ensures, ← c.root-else-contains.ensures)
+    (touches_later (rw c.root.ensures l) c.contains.ensures.tells c.if-contains.false (touches_one (rw c.root-else-contains.ensures k) c.contains-else-contains.ensures.tells))

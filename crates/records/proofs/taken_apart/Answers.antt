@@ -1,8 +1,6 @@
 -- An arm's key picks the definition's choice; in the last arm each key is shut out.
-use mathlib.Core.Path.{ap, ◌∙◌}
 use borrow.Author.Tests.{ne_eqb}
-use Rattle.records.specs.Expressions.{expression-headed}
-use Rattle.records.specs.Decode.{expression_by, decoded_by}
+use Rattle.records.specs.Decode.{decoded_by}
 use Rattle.records.proofs.taken_apart.Goals as goal
 
 pub returns-in-1 : goal.returns-in-1
@@ -44,4 +42,4 @@ returns-in-9 c = rw c.in-9.is
 pub returns-in_default : goal.returns-in_default
 unfolding decoded_by
 returns-in_default c =
-    simp (ne_eqb _ _ c.in_default.in_default-own.rest.1, ne_eqb _ _ c.in_default.in_default-own.rest.0.1, ne_eqb _ _ c.in_default.in_default-own.rest.0.0.1, ne_eqb _ _ c.in_default.in_default-own.rest.0.0.0.1, ne_eqb _ _ c.in_default.in_default-own.rest.0.0.0.0.1, ne_eqb _ _ c.in_default.in_default-own.rest.0.0.0.0.0.1, ne_eqb _ _ c.in_default.in_default-own.rest.0.0.0.0.0.0.1, ne_eqb _ _ c.in_default.in_default-own.rest.0.0.0.0.0.0.0.1, ne_eqb _ _ c.in_default.in_default-own.rest.0.0.0.0.0.0.0.0.1) (c.expression_taken_apart.ensures ∙ ap (expression_by _) c.head_of.ensures ∙ expression-headed _ _)
+    simp (ne_eqb _ _ c.in_default.in_default-own.rest.1, ne_eqb _ _ c.in_default.in_default-own.rest.0.1, ne_eqb _ _ c.in_default.in_default-own.rest.0.0.1, ne_eqb _ _ c.in_default.in_default-own.rest.0.0.0.1, ne_eqb _ _ c.in_default.in_default-own.rest.0.0.0.0.1, ne_eqb _ _ c.in_default.in_default-own.rest.0.0.0.0.0.1, ne_eqb _ _ c.in_default.in_default-own.rest.0.0.0.0.0.0.1, ne_eqb _ _ c.in_default.in_default-own.rest.0.0.0.0.0.0.0.1, ne_eqb _ _ c.in_default.in_default-own.rest.0.0.0.0.0.0.0.0.1) (c.expression_taken_apart.ensures)

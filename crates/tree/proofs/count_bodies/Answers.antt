@@ -7,8 +7,8 @@ use Rattle.tree.proofs.count_bodies.Goals as goal
 
 pub loop-p-preserved : goal.loop-p-preserved
 loop-p-preserved c =
-    turn_next _ _ (bodies-steps _) _ _ _ _ c.loop-p.invariant c.loop-p-test.true _ c.bump.auto.counts
-    (c.bump.ensures ∙ ap (λ (r : rules.Procedure). bumped c.loop-p.counts r.body) c.procedure_at-r.ensures)
+    turn_next _ _ (bodies-steps _) _ _ _ _ c.loop-p.invariant c.loop-p-test.true _
+    (c.bump.ensures ∙ ap (λ (r : rules.Procedure). bumped c.loop-p.counts r.body) c.procedure_at.ensures)
 
 pub returns : goal.returns
 returns c = turn_last _ _ (bodies-steps _) _ _ _ _ c.loop-p.invariant c.loop-p-test.false

@@ -8,7 +8,7 @@ use Rattle.tree.proofs.count_nodes.Goals as goal
 
 pub loop-n-preserved : goal.loop-n-preserved
 loop-n-preserved c =
-    turn_next _ _ (nodes_steps _) _ _ _ _ c.loop-n.invariant c.loop-n-test.true _ c.count_node.auto.counts
+    turn_next _ _ (nodes_steps _) _ _ _ _ c.loop-n.invariant c.loop-n-test.true _
     (c.count_node.ensures ∙ ap (λ (r : rules.Node). tally (references_of r) c.loop-n.counts) c.record_at.ensures)
 
 pub returns : goal.returns

@@ -1,18 +1,10 @@
--- A search: every node before n stands in the tree by its marks.
-use mathlib.Core.Path.{sym, ◌∙◌}
-use Rattle.tree.specs.Search.{search-next, search-found, search-none}
-use Rattle.tree.specs.Hand.{stands_same}
+-- The library's search, by what its test says of one node.
+use Rattle.std.proofs.Common.{rules, arith}
+use Rattle.tree.proofs.Ranges.{found-range}
+use Rattle.tree.specs.Places.{stands_at}
 use Rattle.tree.proofs.first_out_of_place.Goals as goal
 
-pub returns-then-not-stands : goal.returns-then-not-stands
-returns-then-not-stands c =
-    let e = stands_same c.args.nodes.now c.args.body.now c.args.depths.now c.args.chains.now _ _ _ _ _ _ c.mark_at.ensures c.mark_at-in-loop-n.ensures c.mark_at-in-loop-n-2.ensures c.record_at-r.ensures c.stands.ensures in
-    search-found _ _ _ c.loop-n.invariant c.loop-n-test.true (sym e ∙ c.if-not-stands.true)
-
-pub loop-n-preserved : goal.loop-n-preserved
-loop-n-preserved c =
-    let e = stands_same c.args.nodes.now c.args.body.now c.args.depths.now c.args.chains.now _ _ _ _ _ _ c.mark_at.ensures c.mark_at-in-loop-n.ensures c.mark_at-in-loop-n-2.ensures c.record_at-r.ensures c.stands.ensures in
-    search-next _ _ _ c.loop-n.invariant c.loop-n-test.true (sym e ∙ c.if-not-stands.false)
-
 pub returns : goal.returns
-returns c = search-none _ _ _ c.loop-n.invariant c.loop-n-test.false
+returns c =
+    let passes = stands_at c.args.nodes.now c.args.places.now in
+    found-range passes c.args.count _ _ _ _ (omega arith) c.find.ensures.ran (λ n q h. search rules) (λ n q h. search rules)

@@ -1,8 +1,6 @@
--- The first marks of an array of zeros are zeros.
-use Rattle.tree.specs.Hand.{zeros-take}
+-- The first places of an array that stand nowhere stand nowhere.
+use Rattle.tree.specs.Places.{nowhere-cut}
 use Rattle.tree.proofs.places.Goals as goal
 
 pub places_by-requires : goal.places_by-requires
-places_by-requires c =
-    let z = zeros-take c.args.h.nodes 4096 c.requires in
-    (c.requires, z, z, z)
+places_by-requires c = (c.requires, nowhere-cut _ c.args.h.nodes 4096 c.from.ensures c.requires)

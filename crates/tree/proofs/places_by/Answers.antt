@@ -1,14 +1,14 @@
--- The marks that the callees leave are those of the rules, for marks that begin at 0.
+-- The places that the callees leave are those of the rules.
 use mathlib.Core.Path.{◌∙◌}
 use Rattle.records.specs.Records.{as_header}
-use Rattle.tree.specs.Hand.{bodies-at-most, places_marked}
+use Rattle.records.specs.Parts.{as_parts}
+use Rattle.tree.specs.Places.{bodies-at-most, places_refused}
 use Rattle.tree.proofs.places_by.Goals as goal
 
-pub hand_down-requires : goal.hand_down-requires
-hand_down-requires c = (c.requires.0, bodies-at-most c.args.h.nodes _ c.args.depths.now c.mark_bodies-2.new.marks c.requires.2 c.mark_bodies-2.ensures)
+pub place_all-requires : goal.place_all-requires
+place_all-requires c = (c.requires.0, bodies-at-most c.args.h.nodes _ _ _ _ c.requires.1 c.place_bodies.ensures)
 
 pub returns : goal.returns
 returns c =
     c.lowest.ensures
-    ∙ places_marked (as_header c.args.h) _ c.args.nodes.now _ _ _ c.requires.1 c.requires.2 c.requires.3 c.mark_bodies.new.marks _ c.hand_down.new.marks c.hand_down-2.new.marks
-    c.mark_bodies.ensures c.mark_bodies-2.ensures c.hand_down.ensures c.hand_down-2.ensures _ c.first_out_of_place.ensures
+    ∙ places_refused (as_header c.args.h) (as_parts c.args.parts.now) _ _ _ c.requires.1 c.place_bodies.ensures c.place_all.ensures _ c.first_out_of_place.ensures

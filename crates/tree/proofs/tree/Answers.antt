@@ -1,12 +1,14 @@
 -- The second pass is asked only where the first accepts.
+use Rattle.std.proofs.Common.{rules}
 use Rattle.rules.specs.Tree.{tree_refusal}
-use Rattle.tree.specs.Search.{then_stops, then_goes}
+use Rattle.records.specs.Refusals.{then-stops}
+use Rattle.tree.specs.Search.{then-on}
 use Rattle.tree.proofs.tree.Goals as goal
 
-pub returns-then-v-ne0 : goal.returns-then-v-ne0
+pub returns-in_err-references : goal.returns-in_err-references
 unfolding tree_refusal
-returns-then-v-ne0 c = then_stops _ _ c.references-v.ensures _ c.if-v-ne0.true
+returns-in_err-references c = search (rules, then-stops)
 
 pub returns : goal.returns
 unfolding tree_refusal
-returns c = then_goes _ _ c.references-v.ensures _ c.if-v-ne0.false _ c.places.ensures
+returns c = then-on _ _ _ c.in_ok-references.ensures c.places.ensures

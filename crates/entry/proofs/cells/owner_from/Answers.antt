@@ -1,19 +1,19 @@
--- The search from `from` is the search from p: the procedures before p end at x or before it.
-use Prim.Native.Nat.{◌+◌}
-use mathlib.Core.Path.{sym, ap, ◌∙◌}
-use native.Mathlib.Omega.{arith}
-use borrow.Author.Rules.{rules}
-use borrow.Author.Tests.{le-leb, lt-leb}
-use lib.Dec.{leb}
-use Rattle.rules.specs.Image.{Procedure}
-use Rattle.tree.specs.Search.{search-on, search-stop, search-end}
+-- `find` answers the first procedure that ends behind x, which is where the search ends.
+use Rattle.std.proofs.Common.{◌≡◌, ◌-◌, true, false, ap, ◌∙◌, rules, arith}
+use Rattle.std.specs.Option.{unwrap_or}
+use borrow.Author.Tests.{tests}
+use Rattle.std.proofs.lemmas.Iterator.{first_from_Range}
+use Rattle.entry.specs.Cells.{ends_at}
+use Rattle.tree.specs.Search.{found-by}
+use Rattle.entry.proofs.Searches.{found-or_end, search-ended}
 use Rattle.entry.proofs.cells.owner_from.Goals as goal
 
-pub returns-then-x-q : goal.returns-then-x-q
-returns-then-x-q c = (sym (c.loop-p.invariant.2 ∙ search-stop _ _ _ c.loop-p-test.true (ap (λ (q : Procedure). leb (q.first + q.count) c.args.x) (sym c.procedure_at-q.ensures) ∙ lt-leb _ _ c.if-x-q.true)), search rules)
-
-pub loop-p-preserved : goal.loop-p-preserved
-loop-p-preserved c = (omega arith, omega arith, c.loop-p.invariant.2 ∙ search-on _ _ _ c.loop-p-test.true (ap (λ (q : Procedure). leb (q.first + q.count) c.args.x) (sym c.procedure_at-q.ensures) ∙ le-leb _ _ c.if-x-q.false))
-
 pub returns : goal.returns
-returns c = (sym (c.loop-p.invariant.2 ∙ search-end _ _ _ c.loop-p-test.false), search rules)
+returns c =
+    let ends = ends_at c.args.procedures.now c.args.x in
+    let from = c.args.from in
+    let count = c.args.count in
+    let first = found-by ends from (count - from) count (omega arith) _
+    (first_from_Range _ _ _ _ (λ p. ends p ≡ false) (λ p. ends p ≡ true) c.find.ensures.ran (λ p q k. search (rules, tests)) (λ p q k. search (rules, tests))) in
+    let e = c.unwrap_or.ensures ∙ ap (λ r. unwrap_or r count) first ∙ found-or_end ends from count c.requires in
+    (e, omega (arith, e, (search-ended ends from (count - from)).high))

@@ -1,39 +1,68 @@
--- Each test in turn: the law of its number says what follows from its answer.
-use Prim.Native.Nat.{◌≤◌}
-use mathlib.Core.Path.{◌≡◌, refl, sym, ap, ◌∙◌}
-use mathlib.Core.List.{[]}
-use mathlib.Core.Bool.{true}
-use native.Mathlib.Omega.{arith}
+-- Each test in turn: where it fails its refusal is the answer, and where it passes the next one's is.
+use Rattle.std.proofs.Common.{sym, ap, ◌∙◌, arith}
+use Rattle.std.proofs.lemmas.Result.{err_from_is_err_and}
 use Rattle.rules.specs.Image.{Procedure}
-use Rattle.records.specs.Records.{as_procedure}
-use Rattle.entry.specs.Cells.{parts}
-use Rattle.entry.proofs.Order.{fitting, Fitting, fitting-says, at-19, at-20, at-21, at-22, at-0}
+use Rattle.rules.specs.Run.{work_refusal, store_refusal, room_refusal}
+use Rattle.records.specs.Records.{as_header, as_procedure}
+use Rattle.records.specs.Parts.{as_parts}
+use Rattle.records.specs.Refusals.{then-stops, then-goes}
+use Rattle.entry.proofs.Searches.{found-below}
+use Rattle.entry.proofs.Order.{Fitting, passed-says, lengths-is, cell-found, cell-none, room-is}
 use Rattle.entry.proofs.refusals.entry_refusal.Goals as goal
 
-pub returns-then-works-lt8192 : goal.returns-then-works-lt8192
-returns-then-works-lt8192 c = at-19 _ _ _ _ _ c.if-works-lt8192.true
+pub returns-in_err-given : goal.returns-in_err-given
+unfolding work_refusal
+returns-in_err-given c =
+    let p = err_from_is_err_and c.from_residual.result c.from_residual.ensures.1 in
+    rw (p.1, p.2) (then-stops c.in_err-given.field-0.0 (work_refusal c.args.works) _ c.in_err-given.ensures)
 
-pub returns-then-not-lengths_fit : goal.returns-then-not-lengths_fit
-returns-then-not-lengths_fit c = at-20 _ _ _ _ _ c.if-works-lt8192.false (parts [] _) refl _ c.procedure_at-last.ensures (sym c.lengths_fit.ensures ∙ c.if-not-lengths_fit.true)
+pub returns-in_err-given-2 : goal.returns-in_err-given-2
+unfolding work_refusal store_refusal
+returns-in_err-given-2 c =
+    let p = err_from_is_err_and c.from_residual-in_err-given-2.result c.from_residual-in_err-given-2.ensures.1 in
+    let r = c.in_err-given-2.field-0.0 in
+    let lengths_are = lengths-is (as_header c.args.h) (as_parts c.args.parts.now) c.args.lengths.now c.args.store.now _ c.procedure_at-last.ensures _ c.lengths_fit-fit.ensures in
+    rw (p.1, p.2)
+    (then-stops r _ _ (then-stops r _ _ (c.in_err-given-2.ensures ∙ lengths_are))
+    ∙ sym (then-goes c.in_ok-given.field-0 (work_refusal c.args.works) _ c.in_ok-given.ensures))
 
-pub overflow_cast-result : goal.overflow_cast-result
-overflow_cast-result c =
-    let few : c.procedure_at-last.result.parameters ≤ 16 = omega (arith, c.requires.few, ap (λ (q : Procedure). q.parameters) c.procedure_at-last.ensures) in
-    let fits_here : fitting (parts [] c.args.variables.now) (as_procedure c.procedure_at-last.result) c.args.lengths.now c.args.store.now ≡ true = sym c.lengths_fit.ensures ∙ c.if-not-lengths_fit.false in
-    let says_here : Fitting (parts [] c.args.variables.now) (as_procedure c.procedure_at-last.result) c.args.lengths.now c.args.store.now = fitting-says _ _ _ _ (fits_here) in
-    omega (arith, few, c.if-wide-store.true, (says_here).short)
+pub first_wide_cell-requires : goal.first_wide_cell-requires
+first_wide_cell-requires c =
+    let q = as_procedure c.procedure_at-last.result in
+    let says : Fitting (as_parts c.args.parts.now) q c.args.lengths.now c.args.store.now = passed-says _ _ _ _ _ c.lengths_fit-fit.ensures c.in_ok-given-2.ensures in
+    let first_is = ap (λ (p : Procedure). p.first) c.procedure_at-last.ensures in
+    let parameters_are = ap (λ (p : Procedure). p.parameters) c.procedure_at-last.ensures in
+    (omega (arith, says.counted, c.requires.inside), says.whole)
 
-pub returns-then-wide-store : goal.returns-then-wide-store
-returns-then-wide-store c =
-    let fits_here : fitting (parts [] c.args.variables.now) (as_procedure c.procedure_at-last.result) c.args.lengths.now c.args.store.now ≡ true = sym c.lengths_fit.ensures ∙ c.if-not-lengths_fit.false in
-    at-21 _ _ _ _ _ c.if-works-lt8192.false _ refl _ c.procedure_at-last.ensures (fits_here) _ c.first_wide_cell-wide.ensures c.if-wide-store.true
+pub overflow_cast-i : goal.overflow_cast-i
+overflow_cast-i c =
+    let q = as_procedure c.procedure_at-last.result in
+    let says : Fitting (as_parts c.args.parts.now) q c.args.lengths.now c.args.store.now = passed-says _ _ _ _ _ c.lengths_fit-fit.ensures c.in_ok-given-2.ensures in
+    let parameters_are = ap (λ (p : Procedure). p.parameters) c.procedure_at-last.ensures in
+    omega (arith, found-below _ _ _ (sym c.in-Some.is ∙ c.first_wide_cell.ensures), says.short, parameters_are, c.requires.few)
 
-pub returns-then-store-room-gt4096 : goal.returns-then-store-room-gt4096
-returns-then-store-room-gt4096 c =
-    let fits_here : fitting (parts [] c.args.variables.now) (as_procedure c.procedure_at-last.result) c.args.lengths.now c.args.store.now ≡ true = sym c.lengths_fit.ensures ∙ c.if-not-lengths_fit.false in
-    at-22 _ _ _ _ _ c.if-works-lt8192.false _ refl _ c.procedure_at-last.ensures (fits_here) _ c.first_wide_cell-wide.ensures c.if-wide-store.false _ c.room.ensures.0 c.if-store-room-gt4096.true
+pub returns-in-Some : goal.returns-in-Some
+unfolding work_refusal store_refusal
+returns-in-Some c =
+    let h = as_header c.args.h in
+    let s = as_parts c.args.parts.now in
+    let lengths = c.args.lengths.now in
+    let store = c.args.store.now in
+    let lengths_are = lengths-is h s lengths store _ c.procedure_at-last.ensures _ c.lengths_fit-fit.ensures in
+    let found = cell-found h s lengths store _ c.procedure_at-last.ensures _ c.first_wide_cell.ensures _ c.in-Some.is in
+    then-stops c.at.result _ (room_refusal h s store) (rw c.at.ensures (found ∙ sym (then-goes c.in_ok-given-2.field-0 _ _ (c.in_ok-given-2.ensures ∙ lengths_are))))
+    ∙ sym (then-goes c.in_ok-given.field-0 (work_refusal c.args.works) _ c.in_ok-given.ensures)
 
 pub returns : goal.returns
+unfolding work_refusal store_refusal
 returns c =
-    let fits_here : fitting (parts [] c.args.variables.now) (as_procedure c.procedure_at-last.result) c.args.lengths.now c.args.store.now ≡ true = sym c.lengths_fit.ensures ∙ c.if-not-lengths_fit.false in
-    at-0 _ _ _ _ _ c.if-works-lt8192.false _ refl _ c.procedure_at-last.ensures (fits_here) _ c.first_wide_cell-wide.ensures c.if-wide-store.false _ c.room.ensures.0 c.if-store-room-gt4096.false
+    let h = as_header c.args.h in
+    let s = as_parts c.args.parts.now in
+    let lengths = c.args.lengths.now in
+    let store = c.args.store.now in
+    let x = c.in_ok-given.field-0 in
+    let lengths_are = lengths-is h s lengths store _ c.procedure_at-last.ensures _ c.lengths_fit-fit.ensures in
+    let none = cell-none h s lengths store _ c.procedure_at-last.ensures _ c.first_wide_cell.ensures c.in_default.is in
+    c.given-3.ensures ∙ room-is h s lengths store _ c.procedure_at-last.ensures _ c.room-room.ensures.0
+    ∙ sym (then-goes x _ (room_refusal h s store) (none ∙ sym (then-goes x _ _ (c.in_ok-given-2.ensures ∙ lengths_are))))
+    ∙ sym (then-goes x (work_refusal c.args.works) _ c.in_ok-given.ensures)

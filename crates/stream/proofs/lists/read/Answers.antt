@@ -1,10 +1,8 @@
--- The words before i are those of the part, the others as they were.
-use native.Mathlib.Omega.{arith}
-use Rattle.stream.proofs.Laws.{read_more, read_all}
+-- Each word is the one that stands there.
+use Rattle.std.proofs.Common.{◌*◌, arith}
+use Rattle.std.proofs.lemmas.List.FromFn.{fill_by_all}
+use Rattle.rules.specs.Image.{le64}
 use Rattle.stream.proofs.lists.read.Goals as goal
 
-pub loop-i-preserved : goal.loop-i-preserved
-loop-i-preserved c = read_more _ _ _ _ _ c.loop-i.invariant (omega arith) c.u64_at.ensures
-
 pub returns : goal.returns
-returns c = read_all _ _ _ _ c.loop-i.invariant (omega arith)
+returns c = fill_by_all (λ k. le64 c.args.part.now (k * 8)) c.loop-i.into _ 0 c.loop-i.auto.into (λ k h. c.loop-i.invariant k (omega arith))

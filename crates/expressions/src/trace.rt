@@ -1,0 +1,50 @@
+// The trace, and how far a run has come.
+ghost use Rattle.std.specs.Prelude.{◌≡◌, ℕ, ◌<◌, List, OnOk};
+ghost use Rattle.rules.specs.Machine.{cell_event, step, done};
+ghost use Rattle.expressions.specs.Standing.{Emits, SameSteps, SameRun, Acts};
+
+use crate::slices::put;
+use records::{Rule, Verdict};
+
+// How far a run has come: its first events, as far as they fit, how many there are, and the steps that are left.
+// `entries` is no length: what does not fit is counted.
+#[derive(Drop)]
+pub struct Run<'a> {
+    pub events: &'a mut [u32],
+    pub entries: u64,
+    pub left: u32,
+}
+
+impl Run<'_> {
+    // One more event at the end, written where it fits.
+    pub fn push(&mut self, event: u32)
+        ensures emits { Emits event self.old self.new }
+        ensures same { SameSteps self.old self.new }
+    {
+        put(self.events, self.entries as usize, event);
+        self.entries = self.entries.saturating_add(1);
+    }
+
+    // The event of a cell. A cell of a run is below 131,072, as `address` says, so that nothing is cut by `as`.
+    pub fn push_cell(&mut self, i: u64)
+        requires { i < 131072 }
+        ensures emits { Emits (cell_event i) self.old self.new }
+        ensures same { SameSteps self.old self.new }
+    {
+        self.push(65536 + i as u32);
+    }
+
+    // One step at node n, or 23.
+    pub fn step(&mut self, n: u16) -> Verdict
+        ensures does { (σ : List ℕ) → Acts (step n done) σ self.old σ result self.new }
+        ensures fewer { OnOk result (self.new.left < self.old.left) }
+        ensures same { SameRun self.old self.new }
+    {
+        if self.left == 0 {
+            return Err(Rule::Budget.at(n));
+        }
+        self.left -= 1;
+        self.push(u32::from(n));
+        Ok(())
+    }
+}

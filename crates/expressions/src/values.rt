@@ -1,0 +1,104 @@
+// Expressions and L-values: what is worked out from the memory, with the trace's events.
+ghost use Rattle.std.specs.Prelude.{◌≡◌, ℕ, ◌<◌, List, [], cond};
+ghost use Rattle.rules.specs.Words.{binary_of};
+ghost use Rattle.rules.specs.Image.{Header, Parts, is_expression, variable_of, constant_of, is_constant};
+ghost use Rattle.rules.specs.Tree.{constant, variable, reading_at};
+ghost use Rattle.rules.specs.Machine.{inside, divided, eval, address};
+ghost use Rattle.records.specs.Cases.{place_of};
+ghost use Rattle.expressions.specs.Relations.{slot_of, Readable, Indexed, Gets};
+ghost use Rattle.expressions.specs.Standing.{valued, Finds, SameSteps, ProgramOf};
+
+use crate::{Memory, Run};
+use records::{LValue, Node, Refusal, Rule};
+
+// The operator of that number on two values, or 25 at the operator's node n.
+fn combined(n: u16, operator: u8, v: u64, w: u64) -> Result<u64, Refusal>
+    ensures { (trace : List ℕ) (entries : ℕ) → Gets (divided n (binary_of operator) v w) trace entries trace (valued result entries) }
+{
+    if words::zero_divisor(operator, w) {
+        return Err(Rule::ZeroDivisor.at(n));
+    }
+    Ok(words::binary(operator, v, w))
+}
+
+impl Memory<'_> {
+    // A variable's value: its number where it is a constant, else what its cell has.
+    fn named(&self, run: &mut Run<'_>, x: u16) -> u64
+        ensures finds { (n : ℕ) → Finds (eval (slot_of self.now.slots.now) self.now.cells.now
+            (cond (is_constant (variable_of self.now.parts.variables.now x))
+            (constant n x (constant_of self.now.parts.constants.now (variable_of self.now.parts.variables.now x).extra)) (variable n x)))
+            run.old (Ok result) run.new }
+        ensures same { SameSteps run.old run.new }
+    {
+        let record = records::variable_at(self.parts.variables, x);
+        if record.is_constant() {
+            return records::constant_at(self.parts.constants, record.extra);
+        }
+        self.loaded(run, self.base_of(x))
+    }
+
+    // The cell of array x at this index, or 24 at the element's node n.
+    fn indexed(&self, n: u16, x: u16, index: u64) -> Result<u64, Refusal>
+        ensures below { (valued result 0).value < 131072 }
+        ensures finds { (trace : List ℕ) (entries : ℕ) → Gets (inside n (slot_of self.now.slots.now x) index) trace entries trace (valued result entries) }
+    {
+        if index < self.count_of(x) {
+            return Ok(self.base_of(x) + index);
+        }
+        Err(Rule::Index.at(n))
+    }
+
+    // The value of the expression at node n.
+    pub fn value(&self, run: &mut Run<'_>, n: u16) -> Result<u64, Refusal>
+        requires { Readable is_expression self.now.parts.nodes.now n }
+        ensures finds { (h : Header) (s : Parts) → ProgramOf h s self.now.parts
+            → Finds (eval (slot_of self.now.slots.now) self.now.cells.now (reading_at h s n).as_expr) run.old result run.new }
+        ensures same { SameSteps run.old run.new }
+    {
+        match records::expression_at(self.parts.nodes, n)? {
+            Node::Constant { constant } => {
+                Ok(records::constant_at(self.parts.constants, constant))
+            }
+            Node::Value { lvalue } => match lvalue {
+                LValue::Variable { variable, .. } => Ok(self.named(run, variable)),
+                LValue::Element { node, array, index } | LValue::Unsafe { node, array, index } => {
+                    let at = self.value(run, index)?;
+                    let i = self.indexed(node, array, at)?;
+                    Ok(self.loaded(run, i))
+                }
+            },
+            Node::Size { variable } => Ok(self.count_of(variable)),
+            Node::Binary {
+                operator,
+                left,
+                right,
+            } => {
+                let v = self.value(run, left)?;
+                let w = self.value(run, right)?;
+                combined(n, operator, v, w)
+            }
+            Node::Not { operand } => {
+                let v = self.value(run, operand)?;
+                Ok(words::complement(v))
+            }
+            _ => Err(Rule::NodeRecord.at(n)),
+        }
+    }
+
+    // The cell of an L-value, below 131,072.
+    pub fn address(&self, run: &mut Run<'_>, target: LValue) -> Result<u64, Refusal>
+        requires { Indexed self.now.parts.nodes.now target }
+        ensures below { (valued result 0).value < 131072 }
+        ensures finds { (h : Header) (s : Parts) → ProgramOf h s self.now.parts
+            → Finds (address (slot_of self.now.slots.now) self.now.cells.now (place_of h s target)) run.old result run.new }
+        ensures same { SameSteps run.old run.new }
+    {
+        match target {
+            LValue::Variable { variable, .. } => Ok(self.base_of(variable)),
+            LValue::Element { node, array, index } | LValue::Unsafe { node, array, index } => {
+                let at = self.value(run, index)?;
+                self.indexed(node, array, at)
+            }
+        }
+    }
+}

@@ -1,8 +1,0 @@
--- The machine's `^` is the definition's.
-use Rattle.std.proofs.Common.{refl}
-use Rattle.rules.specs.Words.{operate}
-use Rattle.words.proofs.exclusive.Goals as goal
-
-pub returns : goal.returns
-unfolding operate
-returns c = refl

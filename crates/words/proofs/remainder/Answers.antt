@@ -1,8 +1,0 @@
--- The machine's remainder is the definition's.
-use Rattle.std.proofs.Common.{refl}
-use Rattle.rules.specs.Words.{operate}
-use Rattle.words.proofs.remainder.Goals as goal
-
-pub returns : goal.returns
-unfolding operate
-returns c = refl
