@@ -1,4 +1,5 @@
-// The work words cleared, the store copied into them and back.
+// The work words cleared, the store copied into them and back: a library call each, and functions, since wrong answers of this file
+// (last_word_left, store_from_the_last_word) are tried by name.
 ghost use Rattle.std.specs.Prelude.{◌≡◌, ◌≤◌, ◌++◌, length, replicate, take, drop};
 
 // Every word 0.

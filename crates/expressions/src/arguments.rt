@@ -39,7 +39,7 @@ impl Memory<'_> {
         put(self.slots, y, lent);
     }
 
-    // What the arguments from node n on lend is written to the slots from y on.
+    // What the arguments from node n on lend is written to the slots from y on: the first, then the rest, as the clause has them.
     pub fn arguments(&mut self, run: &mut Run<'_>, y: usize, n: u16) -> Verdict
         requires chained { Chained self.old.parts.nodes.now n }
         requires n_bound { y + (65535 - n) < 1048576 }

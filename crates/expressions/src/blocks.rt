@@ -10,7 +10,7 @@ use crate::Memory;
 use records::{Rule, Verdict};
 
 impl Memory<'_> {
-    // Are all cells of variable x 0?
+    // Are all cells of variable x 0? A loop, here and in `cleared`: by `all` a goal is left that no short answer closes.
     fn is_zero(&self, x: u16) -> bool
         ensures { result ≡ zeros self.now.cells.now (slot_of self.now.slots.now x).base (slot_of self.now.slots.now x).cells }
     {

@@ -23,7 +23,7 @@ pub fn hermes_check(image: &[u8], answer: &mut [u64])
     answered(answer, [number.into(), place.into()]);
 }
 
-// The run of an image over a lent store: number, place, steps and trace entries.
+// The run of an image over a lent store: number, place, steps and trace entries. The parameters are those of the C interface.
 pub fn hermes_run(
     image: &[u8],
     inverse: bool,

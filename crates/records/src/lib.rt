@@ -319,7 +319,7 @@ pub fn lvalue_at(nodes: &[u8], n: u16) -> Option<LValue>
     lvalue_of(n, record_at(nodes, n))
 }
 
-// The record r of node n as an update.
+// The record r of node n as an update. Each of the three below tests its own targets by `let .. else`, the form that docs/FORMS.md names.
 fn update_of(nodes: &[u8], n: u16, r: RawNode) -> Result<Node, Refusal>
     ensures { result ≡ update_by nodes.now n (as_node r) }
 {

@@ -113,7 +113,7 @@ fn ran(
     verdict
 }
 
-// The run of an image over a lent store: "number, place, steps, trace entries".
+// The run of an image over a lent store: "number, place, steps, trace entries". What is lent comes one by one, as the C interface has it.
 pub fn run(
     image: &[u8],
     inverse: bool,
