@@ -2,7 +2,7 @@
 #![tactic(auto)]
 
 ghost use Rattle.std.specs.Prelude.{◌≡◌, Some, None, not, cond, ◌&&◌, ◌+◌, ◌*◌, ◌≤◌, eqb, leb, ltb, unwrap_or};
-ghost use Rattle.rules.specs.Image.{header_of, parts_of, node_of};
+ghost use Rattle.rules.specs.Image.{header_of, parts_of, procedure_of, node_of};
 ghost use Rattle.rules.specs.Form.{◌then◌, given, format_refusal, counts_fit, parts_follow, layout_refusal, procedure_fits, owner, is_parameter, extra_fits, size_fits, variable_fits, field_fits, operator_fits, record_fits};
 ghost use Rattle.rules.specs.Check.{form_refusal};
 ghost use Rattle.records.specs.Records.{as_header, as_procedure, as_variable, as_node};
@@ -95,7 +95,8 @@ fn first_bad_procedure(h: Header, procedures: &[u8]) -> Option<u16>
 
 // Whose variable x is: the lowest procedure whose range ends behind it.
 pub fn owner(h: Header, procedures: &[u8], x: u16) -> Option<u16>
-    ensures { unwrap_or result h.procedures ≡ owner (as_header h) procedures.now x }
+    ensures owner { unwrap_or result h.procedures ≡ owner (as_header h) procedures.now x }
+    ensures lowest { result ≡ found (λ p. leb ((procedure_of procedures.now p).first + (procedure_of procedures.now p).count) x) 0 h.procedures }
 {
     (0..h.procedures).find(|&p| {
         let r = records::procedure_at(procedures, p);

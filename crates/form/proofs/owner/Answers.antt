@@ -10,4 +10,5 @@ pub returns : goal.returns
 unfolding owner
 returns c =
     let passes = λ (p : ℕ). leb ((procedure_of c.args.procedures.now p).first + (procedure_of c.args.procedures.now p).count) c.args.x in
-    end-of passes c.args.h.procedures _ (found-range passes c.args.h.procedures _ _ _ _ (omega arith) c.find.ensures.ran (λ n q h. search rules) (λ n q h. search rules))
+    let lowest = found-range passes c.args.h.procedures _ _ _ _ (omega arith) c.find.ensures.ran (λ n q h. search rules) (λ n q h. search rules) in
+    record { owner = end-of passes c.args.h.procedures _ lowest; lowest = lowest }
