@@ -1,12 +1,14 @@
 -- What the walk of the procedures rests on: the parts are those of an image whose form is accepted.
 use Prim.Native.Nat.{ℕ, zero, suc, ◌+◌, ◌-◌, ◌≤◌, ◌<◌}
-use Rattle.std.specs.Prelude.{◌≡◌, refl, List, [], ◌++◌, Bool, true, false, not, cond, ◌&&◌, ◌||◌, eqb, leb, ltb, Option, unwrap_or, is_some, Result, Ok, ⊤}
+use Rattle.std.specs.Prelude.{◌≡◌, refl, List, [], ◌++◌, true, not, ◌||◌, eqb, leb, ltb, Option, unwrap_or, is_some, Result, Ok, ⊤}
 use Rattle.std.proofs.Common.{sym, ap, ◌∙◌}
 use Rattle.std.proofs.Math.Path.{subst}
+use Rattle.std.proofs.Math.Bool.{or-false}
 use Rattle.std.proofs.Math.Logic.{dite}
 use Rattle.std.proofs.Math.Decide.{ℕ_discrete}
 use native.Mathlib.Omega.{arith}
 use borrow.Author.Tests.{ltb-true, leb-true, eq-eqb}
+use Rattle.std.proofs.lemmas.Bool.{and_parts, or_right}
 use Rattle.rules.specs.Image.{Header, header_of, Parts, parts_of, Procedure, procedure_of, node_of, is_statement}
 use Rattle.rules.specs.Form as form
 use Rattle.rules.specs.Form.{◌then◌, given, procedure_fits, format_refusal, layout_refusal}
@@ -16,15 +18,15 @@ use Rattle.rules.specs.Check.{slow, form_refusal, verdict_for, verdict}
 use Rattle.records.specs.Records.{as_procedure}
 use Rattle.records.specs.Parts.{as_parts}
 use Rattle.records.specs.Refusals.{as_verdict}
-use Rattle.records.specs.Truth.{both}
 use Rattle.records.specs.declared.refusal.Refusal.{Refusal}
 use Rattle.records.specs.declared.parts.Parts as code_parts
 use Rattle.records.specs.declared.Procedure as code
 use Rattle.tree.specs.Search.{found, found-same, lowest-from}
 use Rattle.form.specs.Formed.{Formed}
 use Rattle.names.specs.declared.marks.Names.{Names}
-use Rattle.names.specs.Marks.{Marks, marked, Adds, adds_alone, same-marks, member-append, or_false}
+use Rattle.names.specs.Marks.{Marks, marked, Adds, adds_alone, same-marks, member-append}
 use Rattle.names.specs.Sound.{Sound, Standing}
+use Rattle.walker.specs.Judge.{row}
 use Rattle.walker.specs.Nested.{Setting, Walked}
 
 -- A procedure as the walk uses it: its names are names of the image, its body is a statement.
@@ -99,7 +101,7 @@ module _ {h : Header} {parts : code_parts.Parts} (k : Prepared h (as_parts parts
   pub declared-marks : {x : ⊤} → v ≡ Ok x → Marks after (declared (body_of h (as_parts parts) p))
   declared-marks z =
       same-marks after (declared (body_of h (as_parts parts) p) ++ []) (w.left Γ [] setting z) (declared (body_of h (as_parts parts) p))
-      (λ x. member-append x (declared (body_of h (as_parts parts) p)) [] ∙ unfold member in or_false (member x (declared (body_of h (as_parts parts) p))))
+      (λ x. member-append x (declared (body_of h (as_parts parts) p)) [] ∙ unfold member in or-false (member x (declared (body_of h (as_parts parts) p))))
 
 -- ---- the procedures in order
 
@@ -126,15 +128,7 @@ unfolding bodies member
 body_among s p zero q low high = absurd (omega arith)
 body_among s p (suc count) q low high = dite (ℕ_discrete q p)
     (λ e. rw (e, eq-eqb (procedure_of s p).body (procedure_of s p).body refl))
-    (λ n. rw (body_among s (suc p) count q (omega arith) (omega arith)) (or_true (eqb (procedure_of s q).body (procedure_of s p).body)))
-  where
-    or_true : (b : Bool) → (b || true) ≡ true
-    or_true true = refl
-    or_true false = refl
-
-implied : (a b c : Bool) → a ≡ true → ((not a || b) && c) ≡ true → b ≡ true
-implied true b c e t = (both b c t).0
-implied false b c e t = let z : ◌≡◌ {A = ℕ} 0 1 = cc in absurd (omega arith)
+    (λ n. or_right _ _ (body_among s (suc p) count q (omega arith) (omega arith)))
 
 module _ (image : List ℕ) (f : Formed image) where
   abbrev h : Header
@@ -147,26 +141,26 @@ module _ (image : List ℕ) (f : Formed image) where
   unfolding procedure_fits stands_in_tree
   bodied p l =
       let q = procedure_of s.procedures p in
-      let t₁ = both (eqb q.first _) _ (f.records.procedures_fit p l) in
-      let t₂ = both (leb (q.first + q.count) h.variables) _ t₁.1 in
-      let t₃ = both (leb q.parameters 16) _ t₂.1 in
-      let t₄ = both (leb q.parameters q.count) _ t₃.1 in
-      let t₅ = both (ltb q.body h.nodes) _ t₄.1 in
+      let t₁ = and_parts (eqb q.first _) _ (f.records.procedures_fit p l) in
+      let t₂ = and_parts (leb (q.first + q.count) h.variables) _ t₁.1 in
+      let t₃ = and_parts (leb q.parameters 16) _ t₂.1 in
+      let t₄ = and_parts (leb q.parameters q.count) _ t₃.1 in
+      let t₅ = and_parts (ltb q.body h.nodes) _ t₄.1 in
       let inside : q.body < h.nodes = ltb-true _ _ t₅.0 in
       let ends : q.first + q.count ≤ h.variables = leb-true _ _ t₂.0 in
       record {
         ends = omega (arith, f.laid_out.few_variables);
         parameters = leb-true _ _ t₄.0;
         inside = inside;
-        classed = implied (member q.body (bodies s.procedures 0 h.procedures)) _ _ (body_among s.procedures 0 h.procedures p (omega arith) (omega arith)) (f.records.in_place q.body inside);
+        classed = rw (body_among s.procedures 0 h.procedures p (omega arith) (omega arith)) at (and_parts (not (member q.body (bodies s.procedures 0 h.procedures)) || _) _ (f.records.in_place q.body inside)).0;
       }
 
   ranges : (p : ℕ) → p < h.procedures → (procedure_of s.procedures p).first + (procedure_of s.procedures p).count ≤ h.variables
   unfolding procedure_fits
   ranges p l =
       let q = procedure_of s.procedures p in
-      let t₁ = both (eqb q.first _) _ (f.records.procedures_fit p l) in
-      leb-true _ _ (both (leb (q.first + q.count) h.variables) _ t₁.1).0
+      let t₁ = and_parts (eqb q.first _) _ (f.records.procedures_fit p l) in
+      leb-true _ _ (and_parts (leb (q.first + q.count) h.variables) _ t₁.1).0
 
   pub prepared : Prepared h s
   prepared = record {
@@ -180,19 +174,11 @@ prepared_by image f h s e e' = subst (λ (x : Header). Prepared x s) (sym e) (su
 
 -- ---- the whole verdict
 
-then_groups : (u v w : form.Verdict) → ((u then v) then w) ≡ (u then (v then w))
-unfolding ◌then◌
-then_groups u v w = by (eqb u.number 0) refl
-  where
-    by : (b : Bool) → eqb u.number 0 ≡ b → cond (eqb (cond b v u).number 0) w (cond b v u) ≡ cond b (cond (eqb v.number 0) w v) u
-    by true e = refl
-    by false e = rw e
-
 -- The form's verdict first, then the walk's.
 pub verdict-is : (image : List ℕ)
     → verdict image ≡ ((format_refusal image then layout_refusal image then form_refusal (header_of image) (parts_of image)) then walk_refusal slow (header_of image) (parts_of image) 0 (header_of image).procedures)
 unfolding verdict verdict_for
 verdict-is image =
     sym
-    (then_groups (format_refusal image) _ _
-    ∙ ap (λ v. format_refusal image then v) (then_groups (layout_refusal image) _ _))
+    (row (format_refusal image) _ _ refl
+    ∙ ap (λ v. format_refusal image then v) (row (layout_refusal image) _ _ refl))

@@ -9,25 +9,19 @@ ghost use Rattle.records.specs.Records.{as_header, as_procedure};
 ghost use Rattle.records.specs.Parts.{as_parts};
 ghost use Rattle.records.specs.Refusals.{as_verdict};
 ghost use Rattle.tree.specs.Search.{found};
-ghost use Rattle.names.specs.Marks.{most, Marks, marked};
+ghost use Rattle.names.specs.Marks.{Marks, marked};
 ghost use Rattle.checker.specs.Prepared.{Prepared, Ranged};
 
 use names::Names;
 use records::{Header, Parts, Procedure, Rule, Verdict};
 use walker::Walk;
 
-// The lowest name from `from` up to `end` that is not taken. A loop: `contains` speaks for the names that there can
-// be, and the law of the library's `find` does not say that only the range's names are asked.
+// The lowest name from `from` up to `end` that is not taken.
 fn first_untaken(taken: &Names, from: u16, end: u16) -> Option<u16>
-    requires { (from ≤ end) × (end ≤ most) }
+    requires { from ≤ end }
     ensures { result ≡ found (marked taken.now) from (end - from) }
 {
-    for x in from..end {
-        if !taken.contains(x) {
-            return Some(x);
-        }
-    }
-    None
+    (from..end).find(|&x| !taken.contains(x))
 }
 
 // 8: "non-parameter variable declared nowhere", the lowest of procedure q.

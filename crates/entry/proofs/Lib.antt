@@ -4,6 +4,5 @@ pub mod Wide
 pub mod Rooms
 pub mod Rows
 pub mod Order
-pub mod Accepted
 pub mod Outcomes
 pub mod Names

@@ -1,22 +1,23 @@
 -- Where the names of the run live once both kinds of rows are set: the last procedure's where its execution starts, every other local at home.
-use Prim.Native.Nat.{ℕ, zero, suc, ◌+◌, ◌-◌, ◌≤◌, ◌<◌}
+use Prim.Native.Nat.{ℕ, suc, ◌+◌, ◌-◌, ◌≤◌, ◌<◌}
 use mathlib.Core.Path.{◌≡◌, refl, sym, ap, ◌∙◌}
+use mathlib.Core.Bool.{Bool}
 use mathlib.Core.List.{List, [], ◌∷◌}
 use mathlib.Core.Logic.{◌⊎◌, inr, dite}
 use native.Mathlib.Omega.{arith}
-use native.Mathlib.Decide.{ℕ_discrete, dec_lt}
+use native.Mathlib.Decide.{dec_lt}
 use borrow.Author.Tests.{lt-ltb, le-ltb}
 use lib.ListN.{length, get_or, take}
 use lib.Seq.{drop-cons}
-use Rattle.rules.specs.Image.{Header, Parts, procedure_of}
-use Rattle.rules.specs.Form.{shared_before}
+use Rattle.rules.specs.Words.{Binary}
+use Rattle.rules.specs.Image.{Header, Parts}
 use Rattle.rules.specs.Machine.{Slot, no_slot, Env}
 use Rattle.rules.specs.Run.{home, store_slots, env_of, last_of, sum}
 use Rattle.records.specs.Slots.{Table, slot_of}
 use Rattle.entry.specs.Slots.{slots_placed}
-use Rattle.entry.proofs.Rooms.{room_grows}
 use Rattle.entry.proofs.Rows.{all_length, rows_at, rows_other, store_slot, sum-split}
-use Rattle.entry.proofs.Accepted.{Formed, laid, Placed, placed, sized}
+use Rattle.laws.specs.Records.{Placed, Sound}
+use Rattle.laws.specs.Cells.{room_grows}
 use Rattle.entry.proofs.Outcomes.{Entered}
 
 store_count : (s : Parts) (y i : ℕ) (ns : List ℕ) → length (store_slots s y i ns) ≡ length ns
@@ -32,26 +33,9 @@ sum-within ns j l = omega (arith, sum-split ns j, ap sum (drop-cons ns j 0 l))
 abbrev pub Good : Slot → Type 0
 Good x = (0 < x.width) × (x.width ≤ 64) × (x.base + x.cells ≤ 4096)
 
--- ---- the ranges of procedures
+-- ---- both kinds of rows
 
-shared_grows : (s : List ℕ) (p q : ℕ) → p ≤ q → shared_before s p ≤ shared_before s q
-unfolding shared_before
-shared_grows s p zero l = let e : p ≡ 0 = omega arith in rw e (omega arith)
-shared_grows s p (suc q) l = dite (ℕ_discrete p (suc q)) (λ e. rw e (omega arith)) (λ ne. let g = shared_grows s p q (omega arith) in omega arith)
-
-module _ {h : Header} {s : Parts} {bytes : ℕ} (f : Formed h s bytes) where
-  -- The variables of an earlier procedure stand before those of a later one.
-  pub ranges_ordered : (p q : ℕ) → p < q → q < h.procedures
-      → (procedure_of s.procedures p).first + (procedure_of s.procedures p).count ≤ (procedure_of s.procedures q).first
-  unfolding shared_before
-  ranges_ordered p q l m =
-      let P = (placed f p (omega arith)).start in
-      let Q = (placed f q m).start in
-      let g = shared_grows s.procedures (suc p) q l in
-      omega arith
-
-  -- ---- both kinds of rows
-
+module _ {forbidden : Binary → Bool} {h : Header} {s : Parts} (f : Sound forbidden h s) where
   module _ {works : ℕ} {lengths store : List ℕ} (e : Entered h s works lengths store)
       (slots₀ slots₁ slots₂ : Table) (long : length slots₀ ≡ 1024)
       (at_home : slots₁ ≡ slots_placed (home h s (length store)) 0 h.variables slots₀)
@@ -61,7 +45,7 @@ module _ {h : Header} {s : Parts} {bytes : ℕ} (f : Formed h s bytes) where
     starting = env_of (home h s (length store)) (last_of h s) (store_slots s (last_of h s).first 0 lengths)
 
     last : Placed h s (h.procedures - 1)
-    last = placed f (h.procedures - 1) (omega (arith, laid f))
+    last = f.procedure (h.procedures - 1) (omega (arith, f.some))
 
     long₁ : length slots₁ ≡ 1024
     long₁ = rw (at_home, all_length) long
@@ -71,13 +55,13 @@ module _ {h : Header} {s : Parts} {bytes : ℕ} (f : Formed h s bytes) where
         ap (λ t. slot_of t y) at_store
         ∙ rows_other _ (last_of h s).first (length lengths) slots₁ y apart
         ∙ ap (λ t. slot_of t y) at_home
-        ∙ rows_at _ 0 h.variables slots₀ (omega (arith, laid f)) y (omega arith) (omega arith)
+        ∙ rows_at _ 0 h.variables slots₀ (omega (arith, f.narrow)) y (omega arith) (omega arith)
 
     pub rows_store : (y : ℕ) → (last_of h s).first ≤ y → y < (last_of h s).first + length lengths
         → slot_of slots₂ y ≡ get_or (store_slots s (last_of h s).first 0 lengths) (y - (last_of h s).first) no_slot
     rows_store y l m =
         ap (λ t. slot_of t y) at_store
-        ∙ rows_at _ (last_of h s).first (length lengths) slots₁ (omega (arith, laid f, last, e.fitting.counted, long₁)) y l m
+        ∙ rows_at _ (last_of h s).first (length lengths) slots₁ (omega (arith, f.narrow, last, e.fitting.counted, long₁)) y l m
 
     -- Every name of the last procedure lives where its execution starts with it.
     pub rows_starting : (y : ℕ) → (last_of h s).first ≤ y → y < (last_of h s).first + (last_of h s).count → slot_of slots₂ y ≡ starting y
@@ -99,15 +83,15 @@ module _ {h : Header} {s : Parts} {bytes : ℕ} (f : Formed h s bytes) where
 
     pub home-good : (y : ℕ) → y < h.variables → Good (home h s (length store) y)
     unfolding home
-    home-good y l = ((sized f y l).0, (sized f y l).1, omega (arith, room_grows h s y h.variables l, e.room))
+    home-good y l = ((f.variable y l).some, (f.variable y l).word, omega (arith, room_grows h s y h.variables l, e.room))
 
     store_good : (y : ℕ) → (last_of h s).first ≤ y → y < (last_of h s).first + length lengths → Good (get_or (store_slots s (last_of h s).first 0 lengths) (y - (last_of h s).first) no_slot)
     store_good y l m =
         let j : y - (last_of h s).first < length lengths = omega arith in
         let back : (last_of h s).first + (y - (last_of h s).first) ≡ y = omega arith in
-        let z = sized f y (omega (arith, last, e.fitting.counted)) in
+        let z = f.variable y (omega (arith, last, e.fitting.counted)) in
         rw (store_slot s (last_of h s).first 0 lengths (y - (last_of h s).first) j, back)
-        (z.0, z.1, omega (arith, sum-within lengths (y - (last_of h s).first) j, e.fitting.whole, e.room))
+        (z.some, z.word, omega (arith, sum-within lengths (y - (last_of h s).first) j, e.fitting.whole, e.room))
 
     pub starting-good : (y : ℕ) → (last_of h s).first ≤ y → y < (last_of h s).first + (last_of h s).count → Good (starting y)
     starting-good y l m = dite (dec_lt y ((last_of h s).first + length lengths))

@@ -4,16 +4,16 @@ use mathlib.Core.Path.{◌≡◌, sym, ap, ◌∙◌}
 use mathlib.Core.List.{List, [], ◌∷◌}
 use mathlib.Core.Bool.{Bool, true, not, ◌&&◌}
 use native.Mathlib.Omega.{arith}
-use borrow.Author.Tests.{eqb-true, not-false}
-use lib.Dec.{eqb, ltb}
+use borrow.Author.Tests.{eqb-true}
+use lib.Dec.{eqb, ltb, lit<}
 use lib.ListN.{length, get_or}
 use Rattle.rules.specs.Image.{Header, Parts, Procedure}
 use Rattle.std.specs.Prelude.{Option, Some, None}
+use Rattle.std.proofs.lemmas.Bool.{and_parts}
 use Rattle.rules.specs.Form.{refused, accepted, given}
 use Rattle.rules.specs.Run.{lengths_fit, sum, per_cell, last_of, room_before, lengths_refusal, cell_refusal, room_refusal}
-use Rattle.records.specs.Truth.{both}
 use Rattle.tree.specs.Search.{found, lowest-is}
-use Rattle.entry.proofs.Accepted.{given-passed}
+use Rattle.laws.specs.Verdicts.{is_true, given_holds}
 use Rattle.entry.proofs.Lengths.{fits_one, fits_small}
 
 -- "array over 4,096": the store of lengths that fit is not long.
@@ -21,7 +21,7 @@ pub fit_short : (s : Parts) (y : ℕ) (ns : List ℕ) → lengths_fit s y ns ≡
 unfolding lengths_fit sum
 fit_short s y [] e = omega arith
 fit_short s y (n ∷ ns) e =
-    let p = both (fits_one s y n) (lengths_fit s (suc y) ns) e in
+    let p = and_parts (fits_one s y n) (lengths_fit s (suc y) ns) e in
     omega (arith, fits_small s y n p.0, fit_short s (suc y) ns p.1)
 
 -- The test of 20, and what it says where it holds.
@@ -36,15 +36,15 @@ module _ (t : Parts) (q : Procedure) (lengths store : List ℕ) where
 
   pub fitting-says : fitting ≡ true → Fitting
   fitting-says e =
-      let p = both (eqb (length lengths) q.parameters) (lengths_fit t q.first lengths && eqb (sum lengths) (length store)) e in
-      let r = both (lengths_fit t q.first lengths) (eqb (sum lengths) (length store)) p.1 in
+      let p = and_parts (eqb (length lengths) q.parameters) (lengths_fit t q.first lengths && eqb (sum lengths) (length store)) e in
+      let r = and_parts (lengths_fit t q.first lengths) (eqb (sum lengths) (length store)) p.1 in
       let n : length lengths ≡ q.parameters = eqb-true _ _ p.0 in
       let w : sum lengths ≡ length store = eqb-true _ _ r.1 in
       record { counted = n; whole = w; short = omega (arith, fit_short t q.first lengths r.0) }
 
   -- Where 20 is not given, it holds.
   pub passed-says : (fits : Bool) → fits ≡ fitting → accepted ≡ given 20 0 (not fits) → Fitting
-  passed-says fits e passed = fitting-says (sym e ∙ not-false fits (given-passed 19 0 (not fits) (ap (λ v. v.number) (sym passed))))
+  passed-says fits e passed = fitting-says (sym e ∙ is_true fits (given_holds 20 0 fits (lit< tt) (ap (λ v. v.number) (sym passed))))
 
 -- The verdicts of 20 to 22 by the record of the last procedure, as it was read.
 module _ (h : Header) (s : Parts) (lengths store : List ℕ) (q : Procedure) (last : q ≡ last_of h s) where

@@ -4,7 +4,8 @@ use mathlib.Core.Path.{◌≡◌, refl, ap, ◌∙◌}
 use mathlib.Core.List.{List, [], ◌∷◌, ◌++◌}
 use native.Mathlib.Omega.{arith}
 use native.Mathlib.Nat.{sub-zero}
-use borrow.Author.Tests.{eq-eqb, ne_eqb, ltb-false, not-false}
+use borrow.Author.Tests.{eq-eqb, ne_eqb}
+use lib.Dec.{lit<, nltb→le}
 use lib.ListN.{length, take, drop, replicate}
 use lib.Seq.{take-nil, take-append-add}
 use Rattle.rules.specs.Image.{Header, header_of, Parts, parts_of, procedure_of}
@@ -14,7 +15,7 @@ use Rattle.rules.specs.Tree.{body_of}
 use Rattle.rules.specs.Machine.{State, done, stop, choose, exec}
 use Rattle.rules.specs.Run.{Given, entry_refusal, execution, outcome_of, refused_run, run, trace_after, work_refusal, store_refusal, lengths_refusal, room_refusal, room_before, home, store_slots, env_of, calls_below, last_of}
 use Rattle.entry.specs.Refusals.{entry_tests}
-use Rattle.entry.proofs.Accepted.{then_both, given-passed}
+use Rattle.laws.specs.Verdicts.{is_true, then_both, given-passed, given_holds}
 use Rattle.entry.proofs.Order.{Fitting, fitting-says}
 
 -- ---- the refusals of a run
@@ -86,9 +87,9 @@ entered h s works lengths store e =
     let b = then_both (store_refusal h s lengths store) _ a.1 in
     let c = then_both (lengths_refusal h s lengths store) _ b.0 in
     record {
-      enough = ltb-false _ _ (given-passed 18 0 _ a.0);
-      fitting = fitting-says _ _ _ _ (not-false _ (given-passed 19 0 _ c.0));
-      room = ltb-false _ _ (given-passed 21 0 _ b.1);
+      enough = nltb→le _ _ (given-passed 19 0 _ (lit< tt) a.0);
+      fitting = fitting-says _ _ _ _ (is_true _ (given_holds 20 0 _ (lit< tt) c.0));
+      room = nltb→le _ _ (given-passed 22 0 _ (lit< tt) b.1);
     }
 
 -- ---- the cells

@@ -1,11 +1,9 @@
 -- A walk through the variables: the owner of the next one is not before the owner of the last, so each search for it goes on where the last one ended.
-use Prim.Native.Nat.{ℕ, zero, suc, ◌+◌, ◌-◌, ◌≤◌, ◌<◌}
+use Prim.Native.Nat.{ℕ, ◌+◌, ◌-◌, ◌≤◌}
 use mathlib.Core.Path.{◌≡◌, sym, ◌∙◌}
-use mathlib.Core.Logic.{dite}
 use native.Mathlib.Omega.{arith}
 use native.Mathlib.Numerals.{add-one}
 use native.Mathlib.Nat.{sub-zero, zero-add}
-use native.Mathlib.Decide.{ℕ_discrete}
 use borrow.Author.Tests.{le-leb, leb-true}
 use Rattle.rules.specs.Image.{Header, Parts, Procedure, procedure_of, Variable}
 use Rattle.rules.specs.Form as form
@@ -42,8 +40,3 @@ module _ (h : Header) (s : Parts) where
   pub room_next : (x : ℕ) → room_before h s (x + 1) ≡ room_before h s x + room_of h s x
   unfolding room_before
   room_next x = rw add-one
-
-  pub room_grows : (x y : ℕ) → x < y → room_before h s x + room_of h s x ≤ room_before h s y
-  unfolding room_before
-  room_grows x zero l = absurd (omega arith)
-  room_grows x (suc y) l = dite (ℕ_discrete x y) (λ e. rw e (omega arith)) (λ ne. let g = room_grows x y (omega arith) in omega arith)

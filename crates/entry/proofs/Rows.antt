@@ -16,7 +16,8 @@ use Rattle.rules.specs.Run.{room_of, room_before, home, store_slots, sum}
 use Rattle.records.specs.Slots.{Table, as_slot, of_slot, slot_of}
 use Rattle.entry.specs.Slots.{slot_placed, slots_placed}
 use Rattle.entry.proofs.Lengths.{Summed}
-use Rattle.entry.proofs.Rooms.{room_next, room_grows}
+use Rattle.entry.proofs.Rooms.{room_next}
+use Rattle.laws.specs.Cells.{room_grows}
 
 -- ---- the loops that set rows
 

@@ -6,7 +6,7 @@ use mathlib.Core.Bool.{Bool, true, false, cond}
 use mathlib.Core.List.{List}
 use mathlib.Core.Logic.{dite}
 use native.Mathlib.Omega.{arith}
-use native.Mathlib.Decide.{ℕ_discrete, dec_lt}
+use native.Mathlib.Decide.{dec_lt}
 use borrow.Author.Tests.{eqb-true, eqb-false}
 use lib.Dec.{eqb}
 use lib.ListN.{length, get_or}
@@ -15,6 +15,7 @@ use Rattle.std.specs.Option.{MatchOption, option_map, unwrap_or}
 use Rattle.std.specs.List.{between}
 use Rattle.std.proofs.lemmas.List.Edits.{length-between, get_or-between}
 use Rattle.rules.specs.Form.{search}
+use Rattle.laws.specs.Verdicts.{is_true, is_false, search-from, search-to, search-before, search-found}
 use Rattle.tree.specs.Search.{found, found-by}
 
 -- The places from i to s passed, and s failed or is the end.
@@ -25,18 +26,12 @@ pub record Ended (p : ℕ → Bool) (i n s : ℕ) : Type 0 where
   pub fails : s < n → p s ≡ false
 
 pub search-ended : (p : ℕ → Bool) (i count : ℕ) → Ended p i (i + count) (search p i count)
-unfolding search
-search-ended p i zero = record { low = omega arith; high = omega arith; passed = λ k l m. absurd (omega arith); fails = λ h. absurd (omega arith) }
-search-ended p i (suc count) = go (p i) refl (search-ended p (suc i) count)
-  where
-    go : (t : Bool) → p i ≡ t → Ended p (suc i) (suc i + count) (search p (suc i) count) → Ended p i (i + suc count) (cond t (search p (suc i) count) i)
-    go true e r = record {
-      low = omega (arith, r.low);
-      high = omega (arith, r.high);
-      passed = λ k l m. dite (ℕ_discrete k i) (λ (s : k ≡ i). rw s e) (λ ne. r.passed k (omega arith) m);
-      fails = λ h. r.fails (omega arith);
-    }
-    go false e r = record { low = omega arith; high = omega arith; passed = λ k l m. absurd (omega arith); fails = λ h. e }
+search-ended p i count = record {
+  low = search-from p i count;
+  high = search-to p i count;
+  passed = λ k l m. is_true (p k) (search-before p i count k l m);
+  fails = λ h. is_false (p (search p i count)) (search-found p i count h);
+}
 
 -- Where a second test passes whatever a first one does, its search goes on from where the first one's ended.
 pub search-further : (p q : ℕ → Bool) → ((j : ℕ) → p j ≡ true → q j ≡ true) → (i count : ℕ)

@@ -20,10 +20,7 @@ fn owner_from(procedures: &[u8], count: u16, from: u16, x: u16) -> u16
     ensures { (result ≡ search (ends_at procedures.now x) from (count - from)) × (result ≤ count) }
 {
     (from..count)
-        .find(|p| {
-            let q = records::procedure_at(procedures, *p);
-            u32::from(x) < u32::from(q.first) + u32::from(q.count)
-        })
+        .find(|&p| u32::from(x) < records::procedure_at(procedures, p).end())
         .unwrap_or(count)
 }
 
@@ -32,7 +29,7 @@ fn owner_from(procedures: &[u8], count: u16, from: u16, x: u16) -> u16
 fn cells_of(q: Procedure, v: Variable, x: u16) -> u16
     ensures { result ≡ cells_by (as_procedure q) (as_variable v) x }
 {
-    if u32::from(x) < u32::from(q.first) + u32::from(q.parameters) || v.is_constant() {
+    if u32::from(x) < q.locals() || v.is_constant() {
         0
     } else if v.is_array() {
         v.extra

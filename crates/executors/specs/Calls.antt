@@ -1,19 +1,20 @@
 -- A call: what its arguments lend, and the body that runs with it.
 use Prim.Native.Nat.{ℕ, zero, suc, ◌+◌, ◌≤◌, ◌<◌}
 use Rattle.std.specs.Prelude.{◌≡◌, refl, length, get_or, ltb}
-use Rattle.std.proofs.Math.Path.{sym, ap, subst⁻¹}
+use Rattle.std.proofs.Math.Path.{sym, ap}
 use Rattle.std.proofs.Common.{ap₂, ◌∙◌, arith}
 use mathlib.Core.List.{List, [], ◌∷◌}
 use Rattle.std.proofs.Math.Logic.{dite}
 use Rattle.std.proofs.Math.Decide.{ℕ_discrete}
 use borrow.Author.Tests.{eq-eqb, ne_eqb, ltb-true}
+use Rattle.std.proofs.lemmas.Bool.{cond_both}
 use Rattle.rules.specs.Words.{Direction}
 use Rattle.rules.specs.Image.{Header, Parts, Procedure, procedure_of}
 use Rattle.rules.specs.Tree.{LValue, whole, entry, Stmt, body_of}
-use Rattle.rules.specs.Machine.{Slot, no_slot, Env, Found, found, fault, after, and_then, inside, eval, address, lent, arguments, noted, on_found, reading, choose, exec}
+use Rattle.rules.specs.Machine.{Slot, no_slot, Env, Found, inside, eval, address, lent, arguments, noted, on_found, reading, choose, exec}
 use Rattle.rules.specs.Run.{env_of, calls_below}
-use Rattle.records.specs.Truth.{chosen}
-use Rattle.expressions.specs.Relations.{Table, Run, Traced, Good, Answers, finding, failing, After, Holds, Matches, Rows, Apart, Lends}
+use Rattle.expressions.specs.Relations.{Table, Run, Traced, Good, Answers, finding, failing, After, Holds, Rows, Apart, Lends}
+use Rattle.expressions.specs.Each.{Each, each_then, each_any}
 use Rattle.expressions.specs.Names.{WithinL, WithinLs}
 use Rattle.expressions.specs.Laws.{reading-refused}
 use Rattle.executors.specs.World.{low_of, high_of, World, Stands, Ended, Ran}
@@ -30,26 +31,6 @@ calls_at h s homes (suc p) q l d xs =
 
 -- ---- what the arguments lend
 
--- Whatever is found has the property.
-unfoldable pub Each : {A : Type 0} → (A → Type 0) → Found A → Type 0
-Each P (found v t) = P v
-Each P (fault k n t) = Unit
-
-each_after : {A : Type 0} (P : A → Type 0) (t : List ℕ) (F : Found A) → Each P F → Each P (after t F)
-unfolding Each after
-each_after P t (found v u) e = e
-each_after P t (fault k n u) e = tt
-
-each_then : {A B : Type 0} (P : A → Type 0) (Q : B → Type 0) (F : Found A) (f : A → Found B) → Each P F → ((v : A) → P v → Each Q (f v)) → Each Q (and_then F f)
-unfolding Each and_then
-each_then P Q (found v t) f e go = each_after Q t (f v) (go v e)
-each_then P Q (fault k n t) f e go = tt
-
-each_any : {A : Type 0} (F : Found A) → Each (λ v. Unit {0}) F
-unfolding Each
-each_any (found v t) = tt
-each_any (fault k n t) = tt
-
 -- As many as there are arguments, and all of them good.
 pub record Lent (count : ℕ) (xs : List Slot) : Type 0 where
   pub as_many : length xs ≡ count
@@ -63,7 +44,7 @@ module _ (ρ : Env) (σ : List ℕ) (lo hi : ℕ) (good : (y : ℕ) → lo ≤ y
       each_then (λ v. Unit {0}) (λ i. Good (lent ρ (entry n u x e) i)) (eval ρ σ e) (inside n (ρ x)) (each_any (eval ρ σ e)) (λ v any. within v)
     where
       within : (v : ℕ) → Each (λ i. Good (lent ρ (entry n u x e) i)) (inside n (ρ x) v)
-      within v = chosen (Each (λ i. Good (lent ρ (entry n u x e) i))) (ltb v (ρ x).cells)
+      within v = cond_both (ltb v (ρ x).cells) _ _ (Each (λ i. Good (lent ρ (entry n u x e) i)))
           (λ t. let g = good x w.0.low w.0.high in record { some = g.some; most = g.most; placed = omega (arith, g.placed, ltb-true v (ρ x).cells t) })
           (λ t. tt)
 
@@ -123,7 +104,7 @@ module _ {nodes procedures variables constants : List ℕ} (w : World nodes proc
     call_on c h =
         let e = go (lends c.events h.traced) (arguments-lent ρ cells (low_of procedures p) (high_of procedures p) st.agree.good (arguments_at w a) fine.within) in
         record {
-          is = subst⁻¹ (λ σ. Matches (on_found (arguments ρ σ (arguments_at w a)) (calls_below w.h w.s w.homes p q d) c) cells₂ trace₂ run₂) h.memory_is e.is;
+          is = rw (ap (λ σ. arguments ρ σ (arguments_at w a)) h.memory_is) e.is;
           kept = e.kept;
         }
       where

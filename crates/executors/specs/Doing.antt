@@ -40,17 +40,16 @@ pub both-reaches : (f g : Command) {c : State} {cells trace : List ℕ} {run : R
 unfolding both next
 both-reaches f g x = record { to = x.state; holds = x.holds; same = rw x.is }
 
-step_from_lem : (n : ℕ) (f : Command) (c : State) {cells trace : List ℕ} {run : Run} (left : ℕ) → On (step_from left n done c) cells trace run
-    → (c₁ : State) → step_from left n done c ≡ done c₁ → step_from left n f c ≡ f c₁
+step_from_lem : (n : ℕ) (f : Command) (c : State) (left : ℕ) (c₁ : State) → step_from left n done c ≡ done c₁ → step_from left n f c ≡ f c₁
 unfolding step_from
-step_from_lem n f c zero x c₁ e = absurd (let z : ◌≡◌ {A = ℕ} 0 1 = cc in omega arith)
-step_from_lem n f c (suc left) x c₁ e = cc
+step_from_lem n f c zero c₁ e = cc
+step_from_lem n f c (suc left) c₁ e = cc
 
 -- Once the step is taken.
 pub step-leads : (n : ℕ) (f : Command) {cells trace trace₁ : List ℕ} {run run₁ : Run} → Does (step n done) cells trace run cells trace₁ run₁ → run₁.number ≡ 0
     → Leads (step n f) cells trace run f cells trace₁ run₁
 unfolding step
-step-leads n f d z c h = let x = goes (d c h) z in record { to = x.state; holds = x.holds; same = step_from_lem n f c c.left x x.state x.is }
+step-leads n f d z c h = let x = goes (d c h) z in record { to = x.state; holds = x.holds; same = step_from_lem n f c c.left x.state x.is }
 
 -- Once a value is known.
 pub value_leads : (F : List ℕ → Found ℕ) (f : ℕ → Command) {cells trace trace₁ : List ℕ} {run run₁ : Run} (v : Valued)

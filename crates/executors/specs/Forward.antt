@@ -1,6 +1,6 @@
 -- A list forward, as a loop: what is run of the list from n is what is run of the list from the node that is next, and one law for each way out.
 use Rattle.std.specs.Prelude.{ℕ, ◌≤◌, ◌≡◌, refl, List, Bool, false, length}
-use Rattle.std.proofs.Common.{ap, ◌∙◌, arith}
+use Rattle.std.proofs.Common.{ap, ◌∙◌}
 use Rattle.rules.specs.Words.{Direction}
 use Rattle.rules.specs.Image.{missing, node_of}
 use Rattle.rules.specs.Tree.{Stmt}
@@ -41,53 +41,43 @@ pub record Follows (nodes procedures variables constants : List ℕ) (d : Direct
   pub slots_long : length slots ≡ length slots₀
   pub followed : Followed nodes procedures variables constants d p n cells₀ slots₀ trace₀ run₀ m cells slots trace run
 
-module _ {nodes procedures variables constants : List ℕ} (p n : ℕ) where
-  pub follows_starts : (d : Direction) (cells : List ℕ) (slots : Table) (trace : List ℕ) (run : Run) → Chain nodes n
-      → Follows nodes procedures variables constants d p n cells slots trace run n cells slots trace run
-  follows_starts d cells slots trace run chain = record {
-    chain = chain;
-    onward = omega arith;
-    slots_long = refl;
-    followed = λ w ρ st fine. (fine, λ c h. record { state = c; holds = h; kept = record { row = λ y u. refl }; same = refl });
-  }
+module _ {nodes procedures variables constants : List ℕ} (p n : ℕ) (b : Bool) {cells₀ : List ℕ} {slots₀ : Table} {trace₀ : List ℕ} {run₀ : Run}
+    (m : ℕ) (cells : List ℕ) (slots : Table) (trace : List ℕ) (run : Run) (inv : Follows nodes procedures variables constants (direction_of b) p n cells₀ slots₀ trace₀ run₀ m cells slots trace run) where
+  -- The list from m on is run to its end.
+  follows_led : (cells₁ : List ℕ) (slots₁ : Table) (trace₁ : List ℕ) (run₁ : Run) (w : World nodes procedures variables constants) (ρ : Env) → Stands w p slots₀ ρ → Fine w p (stmts_at w n)
+      → (Stands w p slots ρ → Fine w p (stmts_at w m) → Ran procedures p (running w p (direction_of b) ρ (stmts_at w m)) cells slots trace run cells₁ slots₁ trace₁ run₁)
+      → Ran procedures p (running w p (direction_of b) ρ (stmts_at w n)) cells₀ slots₀ trace₀ run₀ cells₁ slots₁ trace₁ run₁
+  follows_led cells₁ slots₁ trace₁ run₁ w ρ st fine ran c h =
+      let f = inv.followed w ρ st fine in
+      let x = f.1 c h in
+      let e = ran (stands_on w st slots x.kept inv.slots_long) f.0 x.state x.holds in
+      record { is = rw x.same e.is; kept = kept_both x.kept e.kept }
 
-  module _ (b : Bool) {cells₀ : List ℕ} {slots₀ : Table} {trace₀ : List ℕ} {run₀ : Run} (m : ℕ) (cells : List ℕ) (slots : Table) (trace : List ℕ) (run : Run)
-      (inv : Follows nodes procedures variables constants (direction_of b) p n cells₀ slots₀ trace₀ run₀ m cells slots trace run) where
-    -- The list from m on is run to its end.
-    follows_led : (cells₁ : List ℕ) (slots₁ : Table) (trace₁ : List ℕ) (run₁ : Run) (w : World nodes procedures variables constants) (ρ : Env) → Stands w p slots₀ ρ → Fine w p (stmts_at w n)
-        → (Stands w p slots ρ → Fine w p (stmts_at w m) → Ran procedures p (running w p (direction_of b) ρ (stmts_at w m)) cells slots trace run cells₁ slots₁ trace₁ run₁)
-        → Ran procedures p (running w p (direction_of b) ρ (stmts_at w n)) cells₀ slots₀ trace₀ run₀ cells₁ slots₁ trace₁ run₁
-    follows_led cells₁ slots₁ trace₁ run₁ w ρ st fine ran c h =
-        let f = inv.followed w ρ st fine in
-        let x = f.1 c h in
-        let e = ran (stands_on w st slots x.kept inv.slots_long) f.0 x.state x.holds in
-        record { is = rw x.same e.is; kept = kept_both x.kept e.kept }
+  -- No statement is left.
+  pub follows_ends : m ≡ missing → Runs nodes procedures variables constants p (direction_of b) (λ w. stmts_at w n) slots₀ cells₀ trace₀ run₀ cells slots trace run
+  follows_ends e w ρ st fine = follows_led cells slots trace run w ρ st fine (λ st₁ fine₁. none w p (direction_of b) ρ m e)
 
-    -- No statement is left.
-    pub follows_ends : m ≡ missing → Runs nodes procedures variables constants p (direction_of b) (λ w. stmts_at w n) slots₀ cells₀ trace₀ run₀ cells slots trace run
-    follows_ends e w ρ st fine = follows_led cells slots trace run w ρ st fine (λ st₁ fine₁. none w p (direction_of b) ρ m e cells slots trace run)
+  module _ (forward : b ≡ false) (sm : Statement nodes m) (cells₁ : List ℕ) (slots₁ : Table) (trace₁ : List ℕ) (run₁ : Run)
+      (one : Runs nodes procedures variables constants p (direction_of b) (λ w. stmt_at w m) slots cells trace run cells₁ slots₁ trace₁ run₁) where
+    -- The statement at m is refused, and so is the list.
+    pub follows_stops : (run₁.number ≡ 0 → ⊥) → Runs nodes procedures variables constants p (direction_of b) (λ w. stmts_at w n) slots₀ cells₀ trace₀ run₀ cells₁ slots₁ trace₁ run₁
+    follows_stops ne w ρ st fine = follows_led cells₁ slots₁ trace₁ run₁ w ρ st fine (λ st₁ fine₁.
+        ran-same (list_forward w sm p b ρ _ refl forward) (both-refused (one w ρ st₁ (fine_first w sm p fine₁)) _ ne))
 
-    module _ (forward : b ≡ false) (sm : Statement nodes m) (cells₁ : List ℕ) (slots₁ : Table) (trace₁ : List ℕ) (run₁ : Run)
-        (one : Runs nodes procedures variables constants p (direction_of b) (λ w. stmt_at w m) slots cells trace run cells₁ slots₁ trace₁ run₁) where
-      -- The statement at m is refused, and so is the list.
-      pub follows_stops : (run₁.number ≡ 0 → ⊥) → Runs nodes procedures variables constants p (direction_of b) (λ w. stmts_at w n) slots₀ cells₀ trace₀ run₀ cells₁ slots₁ trace₁ run₁
-      follows_stops ne w ρ st fine = follows_led cells₁ slots₁ trace₁ run₁ w ρ st fine (λ st₁ fine₁.
-          ran-same (list_forward w sm p b ρ _ refl forward) (both-refused w st₁ _ _ _ _ _ _ _ _ _ (one w ρ st₁ (fine_first w sm p fine₁)) ne))
-
-      -- The statement at m is done: the list goes on behind it.
-      pub followed_on : run₁.number ≡ 0 → (k : ℕ) → k ≡ (node_of nodes m).next
-          → Followed nodes procedures variables constants (direction_of b) p n cells₀ slots₀ trace₀ run₀ k cells₁ slots₁ trace₁ run₁
-      followed_on z k next w ρ st fine =
-          let f = inv.followed w ρ st fine in (
-            fine_rest w sm p f.0 k next,
-            λ c h.
-                let x = f.1 c h in
-                let e = one w ρ (stands_on w st slots x.kept inv.slots_long) (fine_first w sm p f.0) x.state x.holds in
-                let y = both-reaches (running w p (direction_of b) ρ (stmt_at w m)) (running w p (direction_of b) ρ (stmts_at w k)) (goes e.is z) in
-                record {
-                  state = y.to;
-                  holds = y.holds;
-                  kept = kept_both x.kept e.kept;
-                  same = x.same ∙ ap (λ g. g x.state) (list_forward w sm p b ρ k next forward) ∙ y.same;
-                },
-          )
+    -- The statement at m is done: the list goes on behind it.
+    pub followed_on : run₁.number ≡ 0 → (k : ℕ) → k ≡ (node_of nodes m).next
+        → Followed nodes procedures variables constants (direction_of b) p n cells₀ slots₀ trace₀ run₀ k cells₁ slots₁ trace₁ run₁
+    followed_on z k next w ρ st fine =
+        let f = inv.followed w ρ st fine in (
+          fine_rest w sm p f.0 k next,
+          λ c h.
+              let x = f.1 c h in
+              let e = one w ρ (stands_on w st slots x.kept inv.slots_long) (fine_first w sm p f.0) x.state x.holds in
+              let y = both-reaches (running w p (direction_of b) ρ (stmt_at w m)) (running w p (direction_of b) ρ (stmts_at w k)) (goes e.is z) in
+              record {
+                state = y.to;
+                holds = y.holds;
+                kept = kept_both x.kept e.kept;
+                same = x.same ∙ ap (λ g. g x.state) (list_forward w sm p b ρ k next forward) ∙ y.same;
+              },
+        )

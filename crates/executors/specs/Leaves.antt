@@ -52,12 +52,12 @@ module _ {nodes procedures variables constants : List ℕ} (w : World nodes proc
 
   -- ---- what is done
 
-  module _ (d : Direction) (n : ℕ) (fine : Fine w p (stmt_at w n)) (cells trace : List ℕ) (run : Run) where
+  module _ (d : Direction) (n : ℕ) (fine : Fine w p (stmt_at w n)) {cells trace : List ℕ} {run : Run} where
     pub empty-done : Means w.h w.s n Empty → Does (performed w p d ρ (stmt_at w n)) cells trace run cells trace run
     unfolding performing
     empty-done m = rw m (λ c h. goes_on h)
 
-    module _ (cells' trace' : List ℕ) (run' : Run) where
+    module _ {cells' trace' : List ℕ} {run' : Run} where
       pub update_done : (l : case.LValue) (v o : ℕ) → Means w.h w.s n (Update l v o)
           → (Good (slot_of slots (root_of l)) → Does (updating (slot_of slots) d (update_of o) (place_of w.h w.s l) (expr_at w v)) cells trace run cells' trace' run')
           → Does (performed w p d ρ (stmt_at w n)) cells trace run cells' trace' run'
@@ -87,32 +87,32 @@ module _ {nodes procedures variables constants : List ℕ} (w : World nodes proc
     same-leads : (f : Command) → f ≡ performed w p d ρ (stmt_at w n) → Leads (performed w p d ρ (stmt_at w n)) cells trace run f cells trace run
     same-leads f e c h = record { to = c; holds = h; same = ap (λ g. g c) (sym e) }
 
-  module _ (b : Bool) (n : ℕ) (fine : Fine w p (stmt_at w n)) (cells trace : List ℕ) (run : Run) (q a : ℕ) where
+  module _ (b : Bool) (n : ℕ) (fine : Fine w p (stmt_at w n)) {cells trace : List ℕ} {run : Run} (q a : ℕ) where
     pub call_left : Means w.h w.s n (Call q a) → FineCall w p q a × Leads (performed w p (direction_of b) ρ (stmt_at w n)) cells trace run (calling w p (direction_of b) ρ q a) cells trace run
     unfolding performing Within
-    call_left m = (rw m at fine, same-leads (direction_of b) n fine cells trace run _ (rw (m, ← direction_kept b)))
+    call_left m = (rw m at fine, same-leads (direction_of b) n fine _ (rw (m, ← direction_kept b)))
 
     pub uncall_left : Means w.h w.s n (Uncall q a) → FineCall w p q a × Leads (performed w p (direction_of b) ρ (stmt_at w n)) cells trace run (calling w p (direction_of (not b)) ρ q a) cells trace run
     unfolding performing Within
-    uncall_left m = (rw m at fine, same-leads (direction_of b) n fine cells trace run _ (rw (m, ← direction_turned b)))
+    uncall_left m = (rw m at fine, same-leads (direction_of b) n fine _ (rw (m, ← direction_turned b)))
 
-  module _ (d : Direction) (n : ℕ) (fine : Fine w p (stmt_at w n)) (cells trace : List ℕ) (run : Run) where
+  module _ (d : Direction) (n : ℕ) (fine : Fine w p (stmt_at w n)) {cells trace : List ℕ} {run : Run} where
     pub block-left : (x count m : ℕ) → Means w.h w.s n (Block x count m)
         → (WithinXs lo hi (range x count) × Fine w p (stmts_at w m)) × Leads (performed w p d ρ (stmt_at w n)) cells trace run (closing w p d ρ n x count m) cells trace run
     unfolding performing Within
-    block-left x count m e = (rw e at fine, same-leads d n fine cells trace run _ (rw e))
+    block-left x count m e = (rw e at fine, same-leads d n fine _ (rw e))
 
   module _ (d : Direction) (n : ℕ) (fine : Fine w p (stmt_at w n)) where
     pub if_left : (e chosen otherwise : ℕ) → Means w.h w.s n (If e chosen otherwise)
-        → (WithinE lo hi (expr_at w e) × (Fine w p (stmt_at w chosen) × Fine w p (stmt_at w otherwise))) × (performed w p d ρ (stmt_at w n) ≡ deciding w p d ρ e chosen otherwise)
+        → (WithinE lo hi (expr_at w e) × Fine w p (stmt_at w chosen) × Fine w p (stmt_at w otherwise)) × (performed w p d ρ (stmt_at w n) ≡ deciding w p d ρ e chosen otherwise)
     unfolding performing Within
-    if_left e chosen otherwise m = let i = rw m at fine in ((i.0, (i.1, i.2)), rw m)
+    if_left e chosen otherwise m = (rw m at fine, rw m)
 
   -- A for works out its second bound first where it is inverse.
   module _ (b : Bool) (n : ℕ) (fine : Fine w p (stmt_at w n)) (x first second m : ℕ) (means : Means w.h w.s n (For x first second m)) where
-    pub for_within : In lo hi x × (WithinE lo hi (expr_at w first) × (WithinE lo hi (expr_at w second) × Fine w p (stmt_at w m)))
+    pub for_within : In lo hi x × WithinE lo hi (expr_at w first) × WithinE lo hi (expr_at w second) × Fine w p (stmt_at w m)
     unfolding Within
-    for_within = let i = rw means at fine in (i.0, (i.1, (i.2, i.3)))
+    for_within = rw means at fine
 
     pub for_forward : b ≡ false → performed w p (direction_of b) ρ (stmt_at w n) ≡ bounding w p (direction_of b) ρ n x first second m
     unfolding performing direction_of first_bound

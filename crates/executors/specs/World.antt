@@ -1,12 +1,12 @@
 -- What the executors rest on: the program that the lent parts are, and where the names of the running procedure live.
-use Rattle.std.specs.Prelude.{ℕ, ◌+◌, ◌*◌, ◌≤◌, ◌<◌, ◌≡◌, List, [], true, length}
+use Rattle.std.specs.Prelude.{ℕ, ◌+◌, ◌*◌, ◌≤◌, ◌<◌, ◌≡◌, List, true, length}
 use Rattle.rules.specs.Image.{missing, Header, Parts, procedure_of, node_of, is_statement}
 use Rattle.rules.specs.Form.{record_fits}
 use Rattle.rules.specs.Tree.{body_of}
 use Rattle.rules.specs.Machine.{Env, State, Out, Command}
 use Rattle.records.specs.Cases.{Refers}
 use Rattle.records.specs.declared.Node as case
-use Rattle.expressions.specs.Relations.{Table, Run, slot_of, Good, Agree, Program, Holds, Matches}
+use Rattle.expressions.specs.Relations.{Table, Run, slot_of, Good, Agree, Program, bare, Holds, Matches}
 use Rattle.expressions.specs.Names.{Within}
 
 -- ---- what ending rests on: references go to larger node numbers, and calls to smaller procedures
@@ -31,10 +31,6 @@ Chain nodes n = (n ≡ missing → ⊥) → Statement nodes n
 -- The bodies of the procedures below p are statements.
 abbrev pub Bodies : List ℕ → List ℕ → ℕ → Type 0
 Bodies nodes procedures p = (q : ℕ) → q < p → Statement nodes (procedure_of procedures q).body
-
--- The parts of which only the nodes are known.
-abbrev pub bare : List ℕ → Parts
-bare nodes = record { procedures = []; variables = []; nodes = nodes; constants = [] }
 
 -- What the case of node n refers to.
 pub record Opened (nodes : List ℕ) (n : ℕ) (x : case.Node) : Type 0 where

@@ -1,7 +1,7 @@
 -- One law for each way out of `arguments`: nothing is left, an address is refused, or one row is written and the rest lent behind it.
 use Prim.Native.Nat.{ℕ, zero, suc, ◌+◌, ◌≤◌, ◌<◌}
 use mathlib.Core.Path.{◌≡◌, refl, ap, ◌∙◌}
-use mathlib.Core.List.{List, [], ◌∷◌, ◌++◌, append-nil}
+use mathlib.Core.List.{List, [], ◌∷◌, append-nil}
 use mathlib.Core.Logic.{inl, inr, ⊎_elim}
 use native.Mathlib.Nat.{add-zero}
 use native.Mathlib.Omega.{arith}
@@ -9,57 +9,44 @@ use borrow.Author.Tests.{ltb-true}
 use lib.Dec.{ltb}
 use lib.ListN.{length}
 use Rattle.rules.specs.Tree.{LValue, whole, entry}
-use Rattle.rules.specs.Machine.{Slot, Env, Found, found, fault, after, and_then, inside, eval, address, lent, arguments}
-use Rattle.records.specs.Truth.{chosen}
+use Rattle.rules.specs.Machine.{Slot, Env, Found, found, after, and_then, inside, eval, address, lent, arguments}
 use Rattle.std.specs.Prelude.{Result, Ok, Err, ⊤}
+use Rattle.std.proofs.lemmas.Bool.{cond_both}
 use Rattle.records.specs.declared.refusal.Refusal.{Refusal}
 use Rattle.expressions.specs.Results.{some_number}
 use Rattle.expressions.specs.Standing.{valued, ran}
 use Rattle.expressions.specs.Relations.{Table, Valued, answer, Traced, slot_of, Good, Agree, Answers, finding, failing, Got, Gets, Rows, Apart, Lends}
+use Rattle.expressions.specs.Each.{Each, each_then, each_any}
 use Rattle.expressions.specs.Names.{In, WithinL, WithinLs}
 use Rattle.expressions.specs.Laws.{then_on, then_refused}
 use Rattle.expressions.specs.Agreement.{address_same, lent_same}
-use Rattle.expressions.proofs.Laws.{with_none}
 
 -- A cell's number is small where all slots are good.
-abbrev Small : Found ℕ → Type 0
-Small (found i t) = i ≤ 4096
-Small (fault k m t) = Unit {0}
-
-small_after : (t : List ℕ) (F : Found ℕ) → Small F → Small (after t F)
-unfolding after
-small_after t (found v u) s = s
-small_after t (fault k m u) s = tt
-
-small_then : (F : Found ℕ) (f : ℕ → Found ℕ) → ((v : ℕ) → Small (f v)) → Small (and_then F f)
-unfolding and_then
-small_then (found v t) f s = small_after t (f v) (s v)
-small_then (fault k m t) f s = tt
+abbrev Small : ℕ → Type 0
+Small i = i ≤ 4096
 
 module _ (ρ : Env) (lo hi : ℕ) (good : (y : ℕ) → lo ≤ y → y < hi → Good (ρ y)) where
-  inside-small : (n x : ℕ) → In lo hi x → (v : ℕ) → Small (inside n (ρ x) v)
-  unfolding inside
+  inside-small : (n x : ℕ) → In lo hi x → (v : ℕ) → Each Small (inside n (ρ x) v)
+  unfolding inside Each
   inside-small n x i v =
       let g = good x i.low i.high in
-      chosen Small (ltb v (ρ x).cells) (λ e. omega (arith, g.placed, ltb-true v (ρ x).cells e)) (λ e. tt)
+      cond_both (ltb v (ρ x).cells) _ _ (Each Small) (λ e. omega (arith, g.placed, ltb-true v (ρ x).cells e)) (λ e. tt)
 
-  address-small : (σ : List ℕ) (l : LValue) → WithinL lo hi l → Small (address ρ σ l)
-  unfolding address WithinL
+  address-small : (σ : List ℕ) (l : LValue) → WithinL lo hi l → Each Small (address ρ σ l)
+  unfolding address WithinL Each
   address-small σ (whole n x) w = omega (arith, (good x w.low w.high).placed)
-  address-small σ (entry n u x e) w = small_then (eval ρ σ e) (inside n (ρ x)) (inside-small n x w.0)
+  address-small σ (entry n u x e) w = each_then _ Small (eval ρ σ e) (inside n (ρ x)) (each_any (eval ρ σ e)) (λ v any. inside-small n x w.0 v)
 
-small_value : {F : Found ℕ} {events trace : List ℕ} {i entries : ℕ} → Small F → Got F events trace (answer i 0 0 entries) → i ≤ 4096
+small_value : {F : Found ℕ} {events trace : List ℕ} {i entries : ℕ} → Each Small F → Got F events trace (answer i 0 0 entries) → i ≤ 4096
+unfolding Each
 small_value s (finding f) = rw f.is s
 small_value s (failing f) = absurd (omega (arith, f.number_is, f.refusal))
 
 -- What follows with no event of its own keeps the answer.
-none_after : (t events : List ℕ) {trace : List ℕ} {entries : ℕ} → Traced trace entries (events ++ t) → Traced trace entries (events ++ (t ++ []))
-none_after t events r = rw (append-nil t) r
-
 answers_map : {A B : Type 0} {ok : A → Type 0} (ok' : B → Type 0) (f : A → B) {F : Found A} {events trace : List ℕ} {number place entries : ℕ}
     → Answers ok F events trace number place entries → ((v : A) → ok v → ok' (f v)) → Answers ok' (and_then F (λ v. found (f v) [])) events trace number place entries
 unfolding and_then after
-answers_map ok' f (finding {v} {t} {events} r) g = finding (record { going = r.going; is = g v r.is; traced = none_after t events r.traced })
+answers_map ok' f (finding {v} r) g = finding (record { going = r.going; is = g v r.is; traced = rw append-nil r.traced })
 answers_map ok' f (failing r) g = failing r
 
 rows_cons : (slots : Table) (y : ℕ) (x : Slot) (xs : List Slot) → slot_of slots y ≡ x → Rows slots (y + 1) xs → Rows slots y (x ∷ xs)
@@ -78,7 +65,7 @@ module _ (ρ : Env) (σ : List ℕ) (y : ℕ) {ls₀ : List LValue} where
   unfolding arguments
   lends_none e slots left = (
     (λ x out. refl),
-    λ events t. rw e (finding {v = []} (record { going = refl; is = λ j l. absurd (omega arith); traced = with_none events t })),
+    λ events t. rw e (finding {v = []} (record { going = refl; is = λ j l. absurd (omega arith); traced = rw (← append-nil events) at t })),
   )
 
   module _ (l : LValue) (ls : List LValue) (e : ls₀ ≡ l ∷ ls) (slots : Table) (lo hi : ℕ) (agree : Agree slots ρ lo hi)

@@ -1,6 +1,6 @@
 -- The laws of L-values: the cell of each case, and its root.
 use Prim.Native.Nat.{ℕ}
-use mathlib.Core.Path.{◌≡◌, refl, subst⁻¹}
+use mathlib.Core.Path.{◌≡◌, refl}
 use mathlib.Core.Bool.{Bool, true, false}
 use mathlib.Core.List.{List}
 use mathlib.Core.Logic.{◌⊎◌, ⊎_elim}
@@ -11,16 +11,10 @@ use Rattle.rules.specs.Words.{Direction, Update, changed_by, going}
 use Rattle.rules.specs.Machine.{Env, and_then, inside, eval, address, change}
 use Rattle.records.specs.declared.LValue.{LValue}
 use Rattle.records.specs.declared.LValue.TheVariants.{Variable, Element, Unsafe}
-use Rattle.records.specs.Cases.{place_of, value_of, node_of_lvalue, Named}
+use Rattle.records.specs.Cases.{place_of, root-place, value_of, node_of_lvalue, Named}
 use Rattle.records.specs.Fits.{Child}
 use Rattle.expressions.specs.Relations.{Run, Valued, Readable, Indexed, root_of, Good, answer, Gets, Does}
 use Rattle.expressions.proofs.Laws.{found_plain}
-
-pub root-place : (h : Header) (s : Parts) (l : LValue) → root (place_of h s l) ≡ root_of l
-unfolding root
-root-place h s (Variable n x) = refl
-root-place h s (Element n x i) = refl
-root-place h s (Unsafe n x i) = refl
 
 -- An element, safe or not: entry i of array x at node n. What holds of one holds of the other.
 pub record Entry (l : LValue) (n x i : ℕ) : Type 0 where
@@ -32,18 +26,22 @@ pub record Entry (l : LValue) (n x i : ℕ) : Type 0 where
   pub index : (nodes : List ℕ) → Indexed nodes l → Readable is_expression nodes i
   pub child : (h : Header) (s : Parts) → Named h s l → Child h s.nodes n is_expression i
 
-pub element-entry : (n x i : ℕ) {l : LValue} → l ≡ Element n x i → Entry l n x i
+element-entry : (n x i : ℕ) {l : LValue} → l ≡ Element n x i → Entry l n x i
 unfolding Indexed
 element-entry n x i e =
     rw e (record { unsafe = false; place = λ h s. refl; value = λ h s. refl; here = refl; root = refl; index = λ nodes r. r; child = λ h s q. q.1 })
 
-pub unsafe_entry : (n x i : ℕ) {l : LValue} → l ≡ Unsafe n x i → Entry l n x i
+unsafe_entry : (n x i : ℕ) {l : LValue} → l ≡ Unsafe n x i → Entry l n x i
 unfolding Indexed
 unsafe_entry n x i e =
     rw e (record { unsafe = true; place = λ h s. refl; value = λ h s. refl; here = refl; root = refl; index = λ nodes r. r; child = λ h s q. q.1 })
 
 pub entry_of : (n x i : ℕ) {l : LValue} → (l ≡ Element n x i) ⊎ (l ≡ Unsafe n x i) → Entry l n x i
 entry_of n x i = ⊎_elim (element-entry n x i) (unsafe_entry n x i)
+
+-- The same where its fields have no names.
+pub some_entry : {l : LValue} → ((n : ℕ) × (x : ℕ) × (i : ℕ) × (l ≡ Element n x i)) ⊎ ((n : ℕ) × (x : ℕ) × (i : ℕ) × (l ≡ Unsafe n x i)) → (n : ℕ) × (x : ℕ) × (i : ℕ) × Entry l n x i
+some_entry = ⊎_elim (λ t. (t.0, t.1, t.2, element-entry _ _ _ t.3)) (λ t. (t.0, t.1, t.2, unsafe_entry _ _ _ t.3))
 
 -- The cell of each case.
 module _ (ρ : Env) (σ : List ℕ) (h : Header) (s : Parts) (l : LValue) {trace : List ℕ} {entries : ℕ} where
@@ -54,7 +52,7 @@ module _ (ρ : Env) (σ : List ℕ) (h : Header) (s : Parts) (l : LValue) {trace
   pub address-entry : {n x i : ℕ} → Entry l n x i → {trace' : List ℕ} {v : Valued}
       → Gets (and_then (eval ρ σ (reading_at h s i).as_expr) (inside n (ρ x))) trace entries trace' v → Gets (address ρ σ (place_of h s l)) trace entries trace' v
   unfolding address
-  address-entry y {trace'} {v} g = subst⁻¹ (λ k. Gets (address ρ σ k) trace entries trace' v) (y.place h s) g
+  address-entry y g = rw (y.place h s) g
 
 -- The change of an update's cell, whose size is that of the root's slot, in the direction that it goes.
 pub update_as : (ρ : Env) (h : Header) (s : Parts) (l : LValue) (d : Direction) (o u : Update) (x z v i : ℕ) {cells cells' trace trace' : List ℕ} {run run' : Run}

@@ -2,8 +2,7 @@
 -- An answer's number is 0 or its refusal's, so the number tells which case it is.
 use Prim.Native.Nat.{ℕ, zero, suc}
 use Rattle.std.specs.Prelude.{◌≡◌, refl, List, ◌++◌}
-use Rattle.std.proofs.Common.{sym, ◌∙◌, append_assoc, arith}
-use Rattle.std.proofs.Math.Path.{subst⁻¹}
+use Rattle.std.proofs.Common.{sym, ap, ◌∙◌, append_assoc, arith}
 use Rattle.rules.specs.Machine.{State, Out, done, Command, Found, found, fault, after, and_then, noted, step_from, step, on_found, reading, next, both}
 use Rattle.expressions.specs.Relations.{Run, Valued, Traced, Finding, Failing, Answers, finding, failing, Got, Gets, After, Holds, Stopped, Matches, goes_on, is_stopped, Does}
 
@@ -101,12 +100,12 @@ module _ {A : Type 0} {ok : A → Type 0} (f : A → Command) (c : State) {cells
       → {cells' trace' : List ℕ} {run' : Run} → ((v : A) → ok v → Does (f v) cells trace₁ run₁ cells' trace' run')
       → Matches (reading F f c) cells' trace' run'
   unfolding reading
-  reading-on F r z a {cells'} {trace'} {run'} go = subst⁻¹ (λ σ. Matches (on_found (F σ) f c) cells' trace' run') h.memory_is (found_on r z a go)
+  reading-on F r z a go = rw (ap F h.memory_is) (found_on r z a go)
 
   pub reading-refused : (F : List ℕ → Found A) {number place entries : ℕ} → Answers ok (F cells) c.events trace₁ number place entries → (number ≡ 0 → ⊥)
       → After run number place entries run₁ → {cells' : List ℕ} → Matches (reading F f c) cells' trace₁ run₁
   unfolding reading
-  reading-refused F r z a {cells'} = subst⁻¹ (λ σ. Matches (on_found (F σ) f c) cells' trace₁ run₁) h.memory_is (found_refused r z a)
+  reading-refused F r z a = rw (ap F h.memory_is) (found_refused r z a)
 
 -- The same where it is a value, from what the code's function ensures of it.
 module _ (F : List ℕ → Found ℕ) (f : ℕ → Command) {cells trace trace₁ : List ℕ} {run run₁ : Run} (v : Valued)
@@ -144,12 +143,6 @@ module _ (f g : Command) {cells cells₁ trace trace₁ : List ℕ} {run run₁ 
 -- ---- a step
 
 module _ (n : ℕ) (f : Command) (c : State) {cells trace₁ : List ℕ} {run₁ : Run} where
-  from_on : (left : ℕ) → Matches (step_from left n done c) cells trace₁ run₁ → run₁.number ≡ 0 → {cells' trace' : List ℕ} {run' : Run}
-      → Does f cells trace₁ run₁ cells' trace' run' → Matches (step_from left n f c) cells' trace' run'
-  unfolding step_from
-  from_on zero (is_stopped r) z go = absurd (omega (arith, z, r.number_is, r.refusal))
-  from_on (suc left) (goes_on h) z go = go _ h
-
   from_refused : (left : ℕ) → Matches (step_from left n done c) cells trace₁ run₁ → (run₁.number ≡ 0 → ⊥) → {cells' : List ℕ}
       → Matches (step_from left n f c) cells' trace₁ run₁
   unfolding step_from
@@ -157,10 +150,6 @@ module _ (n : ℕ) (f : Command) (c : State) {cells trace₁ : List ℕ} {run₁
   from_refused (suc left) (goes_on h) z = absurd (z h.going)
 
 module _ (n : ℕ) (f : Command) {cells trace trace₁ : List ℕ} {run run₁ : Run} (d : Does (step n done) cells trace run cells trace₁ run₁) where
-  pub step-on : run₁.number ≡ 0 → {cells' trace' : List ℕ} {run' : Run} → Does f cells trace₁ run₁ cells' trace' run' → Does (step n f) cells trace run cells' trace' run'
-  unfolding step
-  step-on z go c h = from_on n f c c.left (d c h) z go
-
   pub step-refused : (run₁.number ≡ 0 → ⊥) → {cells' : List ℕ} → Does (step n f) cells trace run cells' trace₁ run₁
   unfolding step
   step-refused z c h = from_refused n f c c.left (d c h) z

@@ -3,6 +3,7 @@ pub mod Names
 pub mod Commands
 pub mod Trace
 pub mod Meaning
+pub mod Each
 pub mod Laws
 pub mod Agreement
 pub mod Standing

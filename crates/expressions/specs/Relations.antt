@@ -63,6 +63,10 @@ pub record Program (h : Header) (s : Parts) (nodes variables constants : List �
   pub few : h.nodes ≤ 4096
   pub fit : (n : ℕ) → n < h.nodes → record_fits h nodes n (node_of nodes n) ≡ true
 
+-- The parts of which only the nodes are known: what a node refers to does not depend on the others.
+abbrev pub bare : List ℕ → Parts
+bare nodes = record { procedures = []; variables = []; nodes = nodes; constants = [] }
+
 -- Node n is one of nodes whose records fit, and of this class: what ending rests on, since references go to larger numbers.
 pub record Readable (class : ℕ → Bool) (nodes : List ℕ) (n : ℕ) : Type 0 where
   pub header : Header

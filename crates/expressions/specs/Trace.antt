@@ -4,7 +4,7 @@ use Rattle.std.proofs.Common.{sym, ap, ◌∙◌, append_assoc, arith, length-ap
 use Rattle.std.proofs.Math.Logic.{dite}
 use Rattle.std.proofs.Math.Decide.{dec_lt}
 use Rattle.std.proofs.Math.Nat.{sub-zero}
-use Rattle.std.proofs.lemmas.List.{length-replicate, take-append-le}
+use Rattle.std.proofs.lemmas.List.{take-append-le}
 use Rattle.std.proofs.Math.Seq.{take-nil, set_out, set-append_seam}
 use Rattle.expressions.specs.Relations.{saturated, Traced}
 
@@ -54,6 +54,6 @@ module _ (trace : List ℕ) (entries : ℕ) (events : List ℕ) (t : Traced trac
   traced_more = record { shown = rw (length-set trace entries event) shown_more; counted = omega (arith, t.counted, more-length) }
 
 -- Before the first event: zeros, and none counted.
-pub traced_none : (room : ℕ) → Traced (replicate room 0) 0 []
+pub traced_none : (trace : List ℕ) → trace ≡ replicate (length trace) 0 → Traced trace 0 []
 unfolding saturated
-traced_none room = record { shown = rw (length-replicate {A = ℕ} room 0, take-nil, sub-zero); counted = refl }
+traced_none trace e = record { shown = rw (take-nil, sub-zero) e; counted = refl }

@@ -8,7 +8,6 @@ ghost use Rattle.expressions.specs.Relations.{slot_of, Agree, Chained, Apart, Tr
 ghost use Rattle.expressions.specs.Names.{WithinLs};
 ghost use Rattle.expressions.specs.Standing.{LendsBy, SameSteps, KeepsCells, ProgramOf};
 
-use crate::slices::put;
 use crate::{Memory, Run};
 use records::{LValue, Rule, Slot, Verdict};
 
@@ -36,7 +35,7 @@ impl Memory<'_> {
                 ..slot
             },
         };
-        put(self.slots, y, lent);
+        records::put(self.slots, y, lent);
     }
 
     // What the arguments from node n on lend is written to the slots from y on: the first, then the rest, as the clause has them.

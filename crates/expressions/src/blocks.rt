@@ -11,6 +11,7 @@ use records::{Rule, Verdict};
 
 impl Memory<'_> {
     // Are all cells of variable x 0? A loop, here and in `cleared`: by `all` a goal is left that no short answer closes.
+    #[tactic(auto, unfolding(rules::specs::Machine::zeros), using(crate::proofs::Laws::zeros_more))]
     fn is_zero(&self, x: u16) -> bool
         ensures { result ≡ zeros self.now.cells.now (slot_of self.now.slots.now x).base (slot_of self.now.slots.now x).cells }
     {
@@ -24,6 +25,7 @@ impl Memory<'_> {
     }
 
     // Is variable x of the other secrecy, or are all its cells 0?
+    #[tactic(auto, unfolding(crate::specs::Commands::passing))]
     fn passes(&self, secrecy: bool, x: u16) -> bool
         ensures { result ≡ passing secrecy (slot_of self.now.slots.now x) self.now.cells.now }
     {
@@ -31,6 +33,7 @@ impl Memory<'_> {
     }
 
     // Are all cells of the names from first on, below end, whose secrecy is the given one, 0?
+    #[tactic(auto, unfolding(rules::specs::Machine::cleared, rules::specs::Tree::range, crate::specs::Commands::passing), using(crate::proofs::Laws::cleared_more))]
     fn cleared(&self, secrecy: bool, first: u16, end: u16) -> bool
         requires { first ≤ end }
         ensures { result ≡ cleared secrecy (slot_of self.now.slots.now) (range first (end - first)) self.now.cells.now }

@@ -5,11 +5,9 @@
 mod arguments;
 mod blocks;
 mod memory;
-mod slices;
 mod trace;
 mod updates;
 mod values;
 
 pub use memory::Memory;
-pub use slices::put;
 pub use trace::Run;

@@ -6,7 +6,6 @@ ghost use Rattle.expressions.specs.Relations.{slot_of, Good};
 ghost use Rattle.expressions.specs.Standing.{Finds, SameSteps, KeepsSlots};
 
 use crate::Run;
-use crate::slices::{get_or, put};
 use records::{NO_SLOT, Parts, Slot};
 
 #[derive(Drop)]
@@ -21,7 +20,7 @@ impl Memory<'_> {
     pub fn cell(&self, i: u64) -> u64
         ensures { result ≡ get_or self.now.cells.now i 0 }
     {
-        get_or(self.cells, i as usize, 0)
+        records::get_or(self.cells, i as usize, 0)
     }
 
     // A counter's start and its reset: a value put into a cell.
@@ -29,10 +28,11 @@ impl Memory<'_> {
         ensures sets { self.new.cells.now ≡ set self.old.cells.now i v }
         ensures keeps { KeepsSlots self.old self.new }
     {
-        put(self.cells, i as usize, v);
+        records::put(self.cells, i as usize, v);
     }
 
     // What a cell has, with its event.
+    #[tactic(auto, using(crate::proofs::Laws::loaded_on))]
     pub fn loaded(&self, run: &mut Run<'_>, i: u64) -> u64
         requires { i < 131072 }
         ensures finds { Finds (load self.now.cells.now i) run.old (Ok result) run.new }
@@ -46,7 +46,7 @@ impl Memory<'_> {
     pub fn slot(&self, x: u16) -> Slot
         ensures { as_slot result ≡ slot_of self.now.slots.now x }
     {
-        get_or(self.slots, usize::from(x), NO_SLOT)
+        records::get_or(self.slots, usize::from(x), NO_SLOT)
     }
 
     // The first cell of variable x.

@@ -3,7 +3,6 @@ ghost use Rattle.std.specs.Prelude.{◌≡◌, ℕ, ◌<◌, List, OnOk};
 ghost use Rattle.rules.specs.Machine.{cell_event, step, done};
 ghost use Rattle.expressions.specs.Standing.{Emits, SameSteps, SameRun, Acts};
 
-use crate::slices::put;
 use records::{Rule, Verdict};
 
 // How far a run has come: its first events, as far as they fit, how many there are, and the steps that are left.
@@ -21,7 +20,7 @@ impl Run<'_> {
         ensures emits { Emits event self.old self.new }
         ensures same { SameSteps self.old self.new }
     {
-        put(self.events, self.entries as usize, event);
+        records::put(self.events, self.entries as usize, event);
         self.entries = self.entries.saturating_add(1);
     }
 

@@ -75,7 +75,9 @@ impl Memory<'_> {
         run.push_cell(j);
     }
 
-    // A swap on a value, which is 1 where there is no condition: both indices, then both cells.
+    // A swap on a value, which is 1 where there is no condition: both indices, then both cells. Inlined, so that the targets do not go
+    // through memory (D23).
+    #[inline(always)]
     pub fn swap(
         &mut self,
         run: &mut Run<'_>,

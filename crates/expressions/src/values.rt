@@ -11,7 +11,10 @@ ghost use Rattle.expressions.specs.Standing.{valued, Finds, SameSteps, ProgramOf
 use crate::{Memory, Run};
 use records::{LValue, Node, Refusal, Rule};
 
-// The operator of that number on two values, or 25 at the operator's node n.
+// The operator of that number on two values, or 25 at the operator's node n. Inlined, as `named` is: `value`, which recurses, would call
+// them (D23).
+#[inline(always)]
+#[tactic(auto, using(crate::proofs::Laws::divided_found, crate::proofs::Laws::divided_refused))]
 fn combined(n: u16, operator: u8, v: u64, w: u64) -> Result<u64, Refusal>
     ensures { (trace : List ℕ) (entries : ℕ) → Gets (divided n (binary_of operator) v w) trace entries trace (valued result entries) }
 {
@@ -23,6 +26,7 @@ fn combined(n: u16, operator: u8, v: u64, w: u64) -> Result<u64, Refusal>
 
 impl Memory<'_> {
     // A variable's value: its number where it is a constant, else what its cell has.
+    #[inline(always)]
     fn named(&self, run: &mut Run<'_>, x: u16) -> u64
         ensures finds { (n : ℕ) → Finds (eval (slot_of self.now.slots.now) self.now.cells.now
             (cond (is_constant (variable_of self.now.parts.variables.now x))
@@ -38,6 +42,7 @@ impl Memory<'_> {
     }
 
     // The cell of array x at this index, or 24 at the element's node n.
+    #[tactic(auto, using(crate::proofs::Laws::inside_found, crate::proofs::Laws::inside_refused))]
     fn indexed(&self, n: u16, x: u16, index: u64) -> Result<u64, Refusal>
         ensures below { (valued result 0).value < 131072 }
         ensures finds { (trace : List ℕ) (entries : ℕ) → Gets (inside n (slot_of self.now.slots.now x) index) trace entries trace (valued result entries) }

@@ -1,19 +1,16 @@
 -- What an accepted form gives to whoever reads the image: counts in range, parts of their lengths, and every record fits.
-use Rattle.std.specs.Prelude.{ℕ, ◌*◌, ◌<◌, ◌≡◌, refl, List, ◌++◌, true, eqb, length}
-use Rattle.std.proofs.Common.{◌∙◌, ⊎_elim, arith, eqb-true}
-use Rattle.std.proofs.lemmas.Bool.{eqb-false}
+use Rattle.std.specs.Prelude.{ℕ, ◌*◌, ◌<◌, ◌≡◌, List, ◌++◌, Bool, true, length}
+use Rattle.std.proofs.Common.{◌∙◌, arith, eqb-true, lit<}
 use Rattle.rules.specs.Image.{Header, header_of, Parts, parts_of, node_of, variable_of}
-use Rattle.rules.specs.Form.{Verdict, ◌then◌, format_refusal, layout_refusal, procedure_fits, procedure_refusal, is_parameter, variable_fits, variable_refusal, record_fits, node_refusal}
+use Rattle.rules.specs.Form.{◌then◌, lowest, format_refusal, layout_refusal, procedure_fits, procedure_refusal, is_parameter, variable_fits, variable_refusal, record_fits, node_refusal}
 use Rattle.rules.specs.Tree.{bodies, node_references, occurrences, reference_refusal, depths, chained, stands_in_tree, place_refusal, tree_refusal}
 use Rattle.rules.specs.Check.{form_refusal}
-use Rattle.tree.specs.Search.{tested, lowest-accepts}
-use Rattle.form.specs.Layout.{Laid, laid_by, part-long}
+use Rattle.laws.specs.Verdicts.{Accepted, is_true, then_both, lowest-passed}
+use Rattle.laws.specs.Records.{Laid, laid, part_long}
 
--- Where two tests accept, each does.
-both-accept : (v w : Verdict) → (v then w).number ≡ 0 → (v.number ≡ 0) × (w.number ≡ 0)
-unfolding ◌then◌
-both-accept v w e =
-    ⊎_elim (λ t. (eqb-true v.number 0 t, rw t at e)) (λ f. absurd (eqb-false v.number 0 f (rw f at e))) (tested (eqb v.number 0))
+-- Where the lowest place is none, each place passes.
+each-passes : (number : ℕ) (passes : ℕ → Bool) (count : ℕ) → 0 < number → Accepted (lowest number passes 0 count) → (k : ℕ) → k < count → passes k ≡ true
+each-passes number passes count some e k l = is_true (passes k) (lowest-passed number passes 0 count some e k (omega arith) (omega arith))
 
 -- Every record fits, and the nodes make a tree.
 pub record Fitting (h : Header) (s : Parts) : Type 0 where
@@ -26,16 +23,16 @@ pub record Fitting (h : Header) (s : Parts) : Type 0 where
 pub fitting : (h : Header) (s : Parts) → (form_refusal h s).number ≡ 0 → Fitting h s
 unfolding form_refusal procedure_refusal variable_refusal node_refusal tree_refusal reference_refusal place_refusal
 fitting h s e =
-    let e₃ = both-accept (procedure_refusal h s) _ e in
-    let e₄ = both-accept (variable_refusal h s) _ e₃.1 in
-    let e₅ = both-accept (node_refusal h s) _ e₄.1 in
-    let e₆ = both-accept (reference_refusal h s) _ e₅.1 in
+    let e₃ = then_both (procedure_refusal h s) _ e in
+    let e₄ = then_both (variable_refusal h s) _ e₃.1 in
+    let e₅ = then_both (node_refusal h s) _ e₄.1 in
+    let e₆ = then_both (reference_refusal h s) _ e₅.1 in
     record {
-      procedures_fit = lowest-accepts 3 (λ z. omega arith) _ _ e₃.0;
-      variables-fit = lowest-accepts 4 (λ z. omega arith) _ _ e₄.0;
-      nodes_fit = lowest-accepts 5 (λ z. omega arith) _ _ e₅.0;
-      once = λ n l. eqb-true _ _ (lowest-accepts 6 (λ z. omega arith) _ _ e₆.0 n l);
-      in_place = lowest-accepts 6 (λ z. omega arith) _ _ e₆.1;
+      procedures_fit = each-passes 3 _ _ (lit< tt) e₃.0;
+      variables-fit = each-passes 4 _ _ (lit< tt) e₄.0;
+      nodes_fit = each-passes 5 _ _ (lit< tt) e₅.0;
+      once = λ n l. eqb-true _ _ (each-passes 6 _ _ (lit< tt) e₆.0 n l);
+      in_place = each-passes 6 _ _ (lit< tt) e₆.1;
     }
 
 -- An accepted image: its layout, the lengths of its parts, and its records.
@@ -50,15 +47,15 @@ pub record Formed (image : List ℕ) : Type 0 where
 pub formed : (image : List ℕ) → (format_refusal image then layout_refusal image then form_refusal (header_of image) (parts_of image)).number ≡ 0 → Formed image
 unfolding layout_refusal
 formed image e =
-    let e₁ = both-accept (format_refusal image) _ e in
-    let e₂ = both-accept (layout_refusal image) _ e₁.1 in
+    let e₁ = then_both (format_refusal image) _ e in
+    let e₂ = then_both (layout_refusal image) _ e₁.1 in
     let h = header_of image in
-    let l : Laid (header_of image) (length image) = laid_by (header_of image) (length image) (layout_refusal image) refl e₂.0 in
+    let l : Laid (header_of image) (length image) = laid (header_of image) (length image) e₂.0 in
     record {
       laid_out = l;
-      procedures_long = part-long image (header_of image).procedure_part (header_of image).variable_part (omega (arith, l)) ∙ (omega (arith, l));
-      variables-long = part-long image (header_of image).variable_part (header_of image).node_part (omega (arith, l)) ∙ (omega (arith, l));
-      nodes_long = part-long image (header_of image).node_part (header_of image).constant_part (omega (arith, l)) ∙ (omega (arith, l));
-      constants-long = part-long image (header_of image).constant_part (header_of image).total (omega (arith, l)) ∙ (omega (arith, l));
+      procedures_long = part_long image (header_of image).procedure_part (header_of image).variable_part (omega (arith, l)) ∙ (omega (arith, l));
+      variables-long = part_long image (header_of image).variable_part (header_of image).node_part (omega (arith, l)) ∙ (omega (arith, l));
+      nodes_long = part_long image (header_of image).node_part (header_of image).constant_part (omega (arith, l)) ∙ (omega (arith, l));
+      constants-long = part_long image (header_of image).constant_part (header_of image).total (omega (arith, l)) ∙ (omega (arith, l));
       records = fitting (header_of image) (parts_of image) e₂.1;
     }

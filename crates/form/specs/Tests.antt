@@ -1,13 +1,13 @@
 -- The tests of the rules, taken apart as the code takes them.
-use Prim.Native.Nat.{ℕ, suc, ◌+◌, ◌≤◌}
-use Rattle.std.specs.Prelude.{◌≡◌, List, Bool, Option, Some, None, true, cond, ◌&&◌, ◌||◌, eqb, leb, ltb}
+use Prim.Native.Nat.{ℕ, suc, ◌+◌}
+use Rattle.std.specs.Prelude.{◌≡◌, List, Bool, Option, Some, None, true, not, cond, ◌&&◌, ◌||◌, eqb, leb, ltb, length}
 use Rattle.std.proofs.Common.{sym, ◌∙◌}
 use Rattle.std.proofs.Math.Path.{ap}
 use native.Mathlib.Omega.{arith}
-use borrow.Author.Tests.{eqb-true, leb-true}
-use Rattle.rules.specs.Image.{Header, Procedure, procedure_of, variable_of, node_of}
-use Rattle.records.specs.Truth.{both}
-use Rattle.rules.specs.Form.{procedure_fits, shared_before, is_parameter, variable_fits, record_fits}
+use borrow.Author.Tests.{eqb-true}
+use Rattle.std.proofs.lemmas.Bool.{and_parts}
+use Rattle.rules.specs.Image.{Header, header_of, Procedure, procedure_of, variable_of, node_of}
+use Rattle.rules.specs.Form.{Verdict, given, counts_fit, parts_follow, layout_refusal, procedure_fits, shared_before, is_parameter, variable_fits, record_fits}
 
 -- The kind of the node that v refers to, where it is a larger node.
 abbrev pub referred : Header → List ℕ → ℕ → ℕ → Option ℕ
@@ -28,23 +28,19 @@ module _ (h : Header) (s : List ℕ) (p shared : ℕ) (r : Procedure) (before : 
   unfolding procedure_fits procedure_fits_by
   procedure_fits-is = e ∙ rw before (ap (λ (z : Procedure). procedure_fits_by h p (shared_before s p) z) here)
 
-  module _ (t : x ≡ true) where
-    tests : ((r.first ≡ shared) × (r.first + r.count ≤ h.variables))
-    unfolding procedure_fits_by
-    tests =
-        let p₁ = both (eqb r.first shared) _ (sym e ∙ t) in
-        let p₂ = both (leb (r.first + r.count) h.variables) _ p₁.1 in
-        (eqb-true _ _ p₁.0, leb-true _ _ p₂.0)
+  -- One procedure more is shared out.
+  pub procedure-shared : x ≡ true → r.first + r.count ≡ shared_before s (p + 1)
+  unfolding procedure_fits_by shared_before
+  procedure-shared t =
+      let first : r.first ≡ shared = eqb-true _ _ (and_parts (eqb r.first shared) _ (sym e ∙ t)).0 in
+      let n : p + 1 ≡ suc p = omega arith in
+      rw n (ap (λ (z : ℕ). z + r.count) (first ∙ before) ∙ ap (λ (z : Procedure). shared_before s p + z.count) here)
 
-    pub procedure-within : r.first + r.count ≤ h.variables
-    procedure-within = tests.1
-
-    -- One procedure more is shared out.
-    pub procedure-shared : r.first + r.count ≡ shared_before s (p + 1)
-    unfolding shared_before
-    procedure-shared =
-        let n : p + 1 ≡ suc p = omega arith in
-        rw n (ap (λ (z : ℕ). z + r.count) (tests.0 ∙ before) ∙ ap (λ (z : Procedure). shared_before s p + z.count) here)
+-- The layout by a header that is the image's.
+module _ (image : List ℕ) (h : Header) (here : h ≡ header_of image) (v : Verdict) where
+  pub layout_is : v ≡ given 2 0 (not (counts_fit h && parts_follow h (length image))) → v ≡ layout_refusal image
+  unfolding layout_refusal
+  layout_is e = e ∙ ap (λ (z : Header). given 2 0 (not (counts_fit z && parts_follow z (length image)))) here
 
 abbrev pub variable_fits_at : Header → List ℕ → List ℕ → ℕ → Bool
 variable_fits_at h procedures variables x = variable_fits h (is_parameter h procedures x) (variable_of variables x)

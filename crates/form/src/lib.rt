@@ -65,30 +65,29 @@ fn layout(h: Header, bytes: usize) -> Verdict
 
 // Whether the record r of procedure p fits, where so many variables are shared out before it.
 #[tactic(auto, unfolding(crate::specs::Tests::procedure_fits_by))]
-fn procedure_fits(h: Header, p: u16, shared: u16, r: Procedure) -> bool
+fn procedure_fits(h: Header, p: u16, shared: u32, r: Procedure) -> bool
     ensures { result ≡ procedure_fits_by (as_header h) p shared (as_procedure r) }
 {
-    let end = u32::from(r.first) + u32::from(r.count);
     let variables = u32::from(h.variables);
-    r.first == shared
-        && end <= variables
+    u32::from(r.first) == shared
+        && r.end() <= variables
         && r.parameters <= 16
         && r.parameters <= r.count
         && r.body < h.nodes
-        && (u32::from(p) + 1 < u32::from(h.procedures) || end == variables)
+        && (u32::from(p) + 1 < u32::from(h.procedures) || r.end() == variables)
 }
 
 // The first procedure whose record does not fit. A loop, and no search, since each record says where the next one begins.
 fn first_bad_procedure(h: Header, procedures: &[u8]) -> Option<u16>
     ensures { result ≡ found (procedure_fits (as_header h) procedures.now) 0 h.procedures }
 {
-    let mut shared: u16 = 0;
+    let mut shared = 0;
     for p in 0..h.procedures {
         let r = records::procedure_at(procedures, p);
         if !procedure_fits(h, p, shared, r) {
             return Some(p);
         }
-        shared = r.first + r.count;
+        shared = r.end();
     }
     None
 }
@@ -98,19 +97,16 @@ pub fn owner(h: Header, procedures: &[u8], x: u16) -> Option<u16>
     ensures owner { unwrap_or result h.procedures ≡ owner (as_header h) procedures.now x }
     ensures lowest { result ≡ found (λ p. leb ((procedure_of procedures.now p).first + (procedure_of procedures.now p).count) x) 0 h.procedures }
 {
-    (0..h.procedures).find(|&p| {
-        let r = records::procedure_at(procedures, p);
-        u32::from(x) < u32::from(r.first) + u32::from(r.count)
-    })
+    (0..h.procedures).find(|&p| u32::from(x) < records::procedure_at(procedures, p).end())
 }
 
 // "parameters come first"; of a variable that no procedure has, the record behind the last is asked.
+#[tactic(auto, unfolding(rules::specs::Form::is_parameter))]
 pub fn is_parameter(h: Header, procedures: &[u8], x: u16) -> bool
     ensures { result ≡ is_parameter (as_header h) procedures.now x }
 {
     let p = owner(h, procedures, x).unwrap_or(h.procedures);
-    let r = records::procedure_at(procedures, p);
-    u32::from(x) < u32::from(r.first) + u32::from(r.parameters)
+    u32::from(x) < records::procedure_at(procedures, p).locals()
 }
 
 // "Extra is a local array's length, 1 to 4,096; a constant's number, below K; else 0, array parameters included."
@@ -182,7 +178,8 @@ impl<'a> Entry<'a> {
         }
     }
 
-    // Whether v can stand in a field of this class.
+    // Whether v can stand in a field of this class. Inlined, since a check asks five times for each node (D23).
+    #[inline(always)]
     #[tactic(auto, unfolding(rules::specs::Form::field_fits, rules::specs::Form::refers))]
     fn field_fits(&self, class: Class, v: u16) -> bool
         ensures { result ≡ field_fits (as_header self.now.header) self.now.nodes.now self.now.node self.now.fields.b (class_number class) v }

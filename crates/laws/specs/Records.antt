@@ -1,12 +1,12 @@
 -- What an accepted image says of its records: where each procedure's variables stand, what each variable is, and that each body was walked.
-use Rattle.std.specs.Prelude.{ℕ, zero, suc, ◌+◌, ◌≤◌, ◌<◌, List, ◌≡◌, Bool, true, false, not, cond, ◌&&◌, ◌||◌, length, T, eqb, leb, ltb}
-use Rattle.std.proofs.Common.{⊎_elim, arith, eqb→eq, leb→le, ltb→lt, le→leb, T_not, lit<}
+use Rattle.std.specs.Prelude.{ℕ, zero, suc, ◌+◌, ◌-◌, ◌*◌, ◌≤◌, ◌<◌, List, ◌≡◌, Bool, true, false, not, cond, ◌&&◌, ◌||◌, length, drop, T, eqb, leb, ltb}
+use Rattle.std.proofs.Common.{⊎_elim, arith, eqb→eq, leb→le, ltb→lt, le→leb, T_not, lit<, length-drop, length-take-le}
 use Rattle.std.proofs.Math.Logic.{dite}
 use Rattle.std.proofs.Math.Decide.{ℕ_discrete}
 use Rattle.std.proofs.Math.Dec.{not_T}
 use Rattle.rules.specs.Words.{Binary}
-use Rattle.rules.specs.Image.{Header, header_of, Parts, parts_of, Procedure, procedure_of, variable_of, is_array, is_constant}
-use Rattle.rules.specs.Form.{format_refusal, counts_fit, parts_follow, layout_refusal, shared_before, procedure_fits, procedure_refusal, owner, is_parameter, extra_fits, size_fits, variable_fits, variable_refusal, node_refusal}
+use Rattle.rules.specs.Image.{Header, header_of, Parts, part, parts_of, Procedure, procedure_of, variable_of, is_array, is_constant}
+use Rattle.rules.specs.Form.{given, format_refusal, counts_fit, parts_follow, layout_refusal, shared_before, procedure_fits, procedure_refusal, owner, is_parameter, extra_fits, size_fits, variable_fits, variable_refusal, node_refusal}
 use Rattle.rules.specs.Tree.{body_of, tree_refusal}
 use Rattle.rules.specs.Walk.{type_of, body_refusal, walk_refusal}
 use Rattle.rules.specs.Check.{form_refusal, verdict_for}
@@ -18,6 +18,49 @@ Own q x = (q.first ≤ x) × (x < q.first + q.count)
 
 abbrev pub Single : Parts → Procedure → ℕ → Type 0
 Single s q x = T (not (is_array (type_of s x))) × T (not (is_constant (type_of s x))) × (q.first ≤ x) × (x < q.first + q.count)
+
+-- ---- the layout
+
+-- Each count is in its range. "Parts follow the header and each other without gaps; the total is the slice's length."
+pub record Laid (h : Header) (bytes : ℕ) : Type 0 where
+  pub some_procedures : 1 ≤ h.procedures
+  pub few_procedures : h.procedures ≤ 32
+  pub few_variables : h.variables ≤ 1024
+  pub some_nodes : 1 ≤ h.nodes
+  pub few_nodes : h.nodes ≤ 4096
+  pub few_constants : h.constants ≤ 512
+  pub procedures_from : h.procedure_part ≡ 20
+  pub variables-from : h.variable_part ≡ h.procedure_part + h.procedures * 8
+  pub nodes_from : h.node_part ≡ h.variable_part + h.variables * 6
+  pub constants-from : h.constant_part ≡ h.node_part + h.nodes * 12
+  pub ends : h.total ≡ h.constant_part + h.constants * 8
+  pub whole : h.total ≡ bytes
+
+pub laid : (h : Header) (bytes : ℕ) → Accepted (given 2 0 (not (counts_fit h && parts_follow h bytes))) → Laid h bytes
+unfolding counts_fit parts_follow
+laid h bytes e =
+    let t : T (counts_fit h && parts_follow h bytes) = given_holds 2 0 (counts_fit h && parts_follow h bytes) (lit< tt) e in
+    let r = simp and_iff at t in
+    record {
+      some_procedures = leb→le _ _ r.0.0.0;
+      few_procedures = leb→le _ _ r.0.0.1;
+      few_variables = leb→le _ _ r.0.1.0;
+      some_nodes = leb→le _ _ r.0.1.1.0.0;
+      few_nodes = leb→le _ _ r.0.1.1.0.1;
+      few_constants = leb→le _ _ r.0.1.1.1;
+      procedures_from = eqb→eq _ _ r.1.0;
+      variables-from = eqb→eq _ _ r.1.1.0;
+      nodes_from = eqb→eq _ _ r.1.1.1.0;
+      constants-from = eqb→eq _ _ r.1.1.1.1.0;
+      ends = eqb→eq _ _ r.1.1.1.1.1.0;
+      whole = eqb→eq _ _ r.1.1.1.1.1.1;
+    }
+
+-- A part is as long as its two offsets say.
+pub part_long : (image : List ℕ) (from end : ℕ) → end ≤ length image → length (part image from end) ≡ end - from
+part_long image from end l =
+    let d : length (drop from image) ≡ length image - from = length-drop from image in
+    length-take-le (end - from) (drop from image) (omega arith)
 
 -- ---- procedures
 
@@ -133,6 +176,7 @@ walk_each forbidden h s p (suc count) e q l m =
 pub record Sound (forbidden : Binary → Bool) (h : Header) (s : Parts) : Type 0 where
   pub some : 1 ≤ h.procedures
   pub few : h.nodes ≤ 4096
+  pub narrow : h.variables ≤ 1024
   pub nodes : Accepted (node_refusal h s)
   pub tree : Accepted (tree_refusal h s)
   pub procedure : (p : ℕ) → p < h.procedures → Placed h s p
@@ -140,7 +184,7 @@ pub record Sound (forbidden : Binary → Bool) (h : Header) (s : Parts) : Type 0
   pub walked : (p : ℕ) → p < h.procedures → Accepted (body_refusal forbidden s p (body_of h s p))
 
 pub sound : (forbidden : Binary → Bool) (image : List ℕ) → Accepted (verdict_for forbidden image) → Sound forbidden (header_of image) (parts_of image)
-unfolding verdict_for layout_refusal counts_fit form_refusal
+unfolding verdict_for layout_refusal form_refusal
 sound forbidden image e =
     let a = then_both (format_refusal image) _ e in
     let b = then_both (layout_refusal image) _ a.1 in
@@ -148,11 +192,11 @@ sound forbidden image e =
     let d = then_both (procedure_refusal (header_of image) (parts_of image)) _ c.0 in
     let f = then_both (variable_refusal (header_of image) (parts_of image)) _ d.1 in
     let i = then_both (node_refusal (header_of image) (parts_of image)) _ f.1 in
-    let t : T (counts_fit (header_of image) && parts_follow (header_of image) (length image)) =
-    given_holds 2 0 (counts_fit (header_of image) && parts_follow (header_of image) (length image)) (lit< tt) b.0 in
+    let l = laid (header_of image) (length image) b.0 in
     record {
-      some = leb→le 1 (header_of image).procedures (let r = simp and_iff at t in r.0.0.0);
-      few = leb→le (header_of image).nodes 4096 (let r = simp and_iff at t in r.0.1.1.0.1);
+      some = l.some_procedures;
+      few = l.few_nodes;
+      narrow = l.few_variables;
       nodes = i.0;
       tree = i.1;
       procedure = placed (header_of image) (parts_of image) d.0;

@@ -3,11 +3,11 @@ use Rattle.std.specs.Prelude.{ℕ, ◌≤◌, ◌<◌, ◌≡◌, refl, List, []
 use Rattle.std.proofs.Common.{sym, ap, subst, ◌∙◌, inl, inr, ⊎_elim, arith}
 use Rattle.rules.specs.Image.{missing, Header, Parts, node_of, is_statement, is_expression, is_lvalue}
 use Rattle.rules.specs.Tree as tree
-use Rattle.rules.specs.Tree.{reading_at, root, index, variables, roots, indices}
+use Rattle.rules.specs.Tree.{reading_at, index, variables, roots, indices}
 use Rattle.records.specs.Fits.{Child, next_statement_lem, next_lvalue_lem}
 use Rattle.records.specs.Reading.{reading-missing, stmts_reading, arguments-reading}
 use Rattle.records.specs.Decode.{lvalue_at}
-use Rattle.records.specs.Cases.{Named, place_of}
+use Rattle.records.specs.Cases.{Named, place_of, root-place}
 use Rattle.records.specs.Understood.{Placed, Stands, fit_at, stands_at}
 pub use Rattle.records.specs.LValues.{root_of, whole_of}
 use Rattle.records.specs.LValues.{node_of_lvalue, index_of}
@@ -16,12 +16,6 @@ use Rattle.records.specs.declared.LValue.TheVariants.{Variable, Element, Unsafe}
 use Rattle.names.specs.Sound.{Sound, Standing, Known, Chain, KnownChain, standing_child}
 
 -- ---- L-values
-
-pub root-place : (h : Header) (s : Parts) (l : LValue) → root (place_of h s l) ≡ root_of l
-unfolding root
-root-place h s (Variable n x) = refl
-root-place h s (Element n x i) = refl
-root-place h s (Unsafe n x i) = refl
 
 -- An L-value of a sound image that has these nodes.
 pub record Naming (nodes : List ℕ) (h : Header) (s : Parts) (l : LValue) : Type 0 where

@@ -1,6 +1,7 @@
 -- The variables of an expression, by the case of its node.
-use Rattle.std.specs.Prelude.{ℕ, ◌≡◌, refl, List, [], ◌∷◌, ◌++◌, Bool, true, false, cond, Ok}
+use Rattle.std.specs.Prelude.{ℕ, ◌≡◌, refl, List, [], ◌∷◌, ◌++◌, Bool, true, false, cond, Ok, Err}
 use Rattle.std.proofs.Common.{sym, ap, ◌∙◌}
+use Rattle.std.proofs.lemmas.Bool.{false≢true}
 use Rattle.rules.specs.Image.{Header, Parts, node_of, variable_of, is_constant, is_expression}
 use Rattle.rules.specs.Tree as tree
 use Rattle.rules.specs.Tree.{reading_at, variables, index}
@@ -9,16 +10,10 @@ use Rattle.records.specs.LValues.{node_of_lvalue, root_of}
 use Rattle.records.specs.Cases.{place_of, value_of}
 use Rattle.records.specs.declared.LValue.{LValue}
 use Rattle.records.specs.declared.LValue.TheVariants.{Variable, Element, Unsafe}
-use Rattle.records.specs.declared.Node.{Node}
 use Rattle.records.specs.declared.Node.TheVariants.{Empty, Update, Swap, ConditionalSwap, If, For, Call, Uncall, Block, Constant, Value, Size, Binary, Not, Argument}
-use Rattle.records.specs.Truth.{never}
 use Rattle.names.specs.Class.{own-node}
-use Rattle.names.specs.Sound.{Standing, Known, means, refers, expression-classed}
+use Rattle.names.specs.Sound.{never_refused, Standing, Known, means, refers, expression-classed}
 use Rattle.names.specs.Chains.{Naming, KnownNaming}
-
--- What a decoder answered, and what was found in it.
-pub decoded : {d r : Decoded} {x y : Node} → r ≡ d → r ≡ Ok x → x ≡ y → d ≡ Ok y
-decoded e f g = sym e ∙ f ∙ ap Ok g
 
 one_name : (b : Bool) (n x v : ℕ) → variables (cond b (tree.constant n x v) (tree.variable n x)) ≡ x ∷ []
 unfolding variables
@@ -33,24 +28,25 @@ value_names h s (Unsafe n x i) = refl
 
 module _ {nodes : List ℕ} {h : Header} {s : Parts} {n : ℕ} (st : Standing is_expression nodes h s n) where
   -- A number and a size name nothing.
-  pub names_none : (x : Node) → decoded_at nodes n ≡ Ok x → ((l : LValue) → x ≡ Value l → ⊥) → ((o a b : ℕ) → x ≡ Binary o a b → ⊥) → ((a : ℕ) → x ≡ Not a → ⊥)
+  pub names_none : (d : Decoded) → d ≡ decoded_at nodes n → ((l : LValue) → d ≡ Ok (Value l) → ⊥) → ((o a b : ℕ) → d ≡ Ok (Binary o a b) → ⊥) → ((a : ℕ) → d ≡ Ok (Not a) → ⊥)
       → variables (reading_at h s n).as_expr ≡ []
   unfolding variables
-  names_none (Constant k) d nv nb nn = rw (means st d)
-  names_none (Size x) d nv nb nn = rw (means st d)
-  names_none (Value l) d nv nb nn = absurd (nv l refl)
-  names_none (Binary o a b) d nv nb nn = absurd (nb o a b refl)
-  names_none (Not a) d nv nb nn = absurd (nn a refl)
-  names_none Empty d nv nb nn = absurd (never (expression-classed d st))
-  names_none (Update l v o) d nv nb nn = absurd (never (expression-classed d st))
-  names_none (Swap l m) d nv nb nn = absurd (never (expression-classed d st))
-  names_none (ConditionalSwap l m c) d nv nb nn = absurd (never (expression-classed d st))
-  names_none (If c y z) d nv nb nn = absurd (never (expression-classed d st))
-  names_none (For x a b c) d nv nb nn = absurd (never (expression-classed d st))
-  names_none (Call p a) d nv nb nn = absurd (never (expression-classed d st))
-  names_none (Uncall p a) d nv nb nn = absurd (never (expression-classed d st))
-  names_none (Block x c a) d nv nb nn = absurd (never (expression-classed d st))
-  names_none (Argument l m) d nv nb nn = absurd (never (expression-classed d st))
+  names_none (Ok (Constant k)) e nv nb nn = rw (means st (sym e))
+  names_none (Ok (Size x)) e nv nb nn = rw (means st (sym e))
+  names_none (Ok (Value l)) e nv nb nn = absurd (nv l refl)
+  names_none (Ok (Binary o a b)) e nv nb nn = absurd (nb o a b refl)
+  names_none (Ok (Not a)) e nv nb nn = absurd (nn a refl)
+  names_none (Ok Empty) e nv nb nn = absurd (false≢true (expression-classed (sym e) st))
+  names_none (Ok (Update l v o)) e nv nb nn = absurd (false≢true (expression-classed (sym e) st))
+  names_none (Ok (Swap l m)) e nv nb nn = absurd (false≢true (expression-classed (sym e) st))
+  names_none (Ok (ConditionalSwap l m c)) e nv nb nn = absurd (false≢true (expression-classed (sym e) st))
+  names_none (Ok (If c y z)) e nv nb nn = absurd (false≢true (expression-classed (sym e) st))
+  names_none (Ok (For x a b c)) e nv nb nn = absurd (false≢true (expression-classed (sym e) st))
+  names_none (Ok (Call p a)) e nv nb nn = absurd (false≢true (expression-classed (sym e) st))
+  names_none (Ok (Uncall p a)) e nv nb nn = absurd (false≢true (expression-classed (sym e) st))
+  names_none (Ok (Block x c a)) e nv nb nn = absurd (false≢true (expression-classed (sym e) st))
+  names_none (Ok (Argument l m)) e nv nb nn = absurd (false≢true (expression-classed (sym e) st))
+  names_none (Err r) e nv nb nn = absurd (never_refused st (sym e))
 
   -- A value names its variable, and what its index names.
   pub names_value : {l : LValue} → decoded_at nodes n ≡ Ok (Value l) → variables (reading_at h s n).as_expr ≡ root_of l ∷ index (place_of h s l)

@@ -1,8 +1,10 @@
 -- Names as marks: one for each of 1,024 variables, which holds where the name belongs to a list.
 use Rattle.std.specs.Prelude.{ℕ, zero, suc, ◌+◌, ◌-◌, ◌≤◌, ◌<◌, ◌≡◌, List, [], ◌∷◌, ◌++◌, Bool, true, false, ◌||◌, eqb, get_or, set, replicate}
 use Rattle.std.proofs.Math.Path.{refl, sym}
-use Rattle.std.proofs.Common.{ap, ◌∙◌, arith, get_or-set_other}
-use borrow.Author.Tests.{eq-eqb, ne_eqb, eqb-true, eqb-false}
+use Rattle.std.proofs.Math.Bool.{or-true, or-false, or_assoc, or_comm}
+use Rattle.std.proofs.Common.{ap, ◌∙◌, arith, ⊎_elim, get_or-set_other}
+use Rattle.std.proofs.lemmas.Bool.{cases_Bool, eq-eqb, ne_eqb, eqb-true, eqb-false}
+use Rattle.std.proofs.lemmas.Bool.Decides.{nat_tests}
 use Rattle.std.proofs.Math.ListN.{length, length-set}
 use Rattle.std.proofs.lemmas.List.{get_or-replicate}
 use Rattle.std.proofs.Math.Seq.{get_or-set_same}
@@ -24,41 +26,15 @@ pub record Marks (marks : Names) (names : List ℕ) : Type 0 where
 
 -- ---- membership
 
--- A test is what it is shown to be in each case.
-pub chosen_eq : (b : Bool) {a : Bool} → (b ≡ true → a ≡ true) → (b ≡ false → a ≡ false) → a ≡ b
-chosen_eq true p q = p refl
-chosen_eq false p q = q refl
-
-or_assoc : (a b c : Bool) → ((a || b) || c) ≡ (a || (b || c))
-or_assoc true b c = refl
-or_assoc false b c = refl
-
-pub or_comm : (a b : Bool) → (a || b) ≡ (b || a)
-or_comm true true = refl
-or_comm true false = refl
-or_comm false true = refl
-or_comm false false = refl
-
+-- The first two of three tests, and the middle two of four, stand in either order.
 or_front : (a b c : Bool) → (a || (b || c)) ≡ (b || (a || c))
-or_front true true c = refl
-or_front true false c = refl
-or_front false b c = refl
+or_front a b c = sym (or_assoc a b c) ∙ ap (λ t. t || c) (or_comm a b) ∙ or_assoc b a c
 
 or_swap : (a b c d : Bool) → ((a || b) || (c || d)) ≡ ((a || c) || (b || d))
-or_swap true b c d = refl
-or_swap false true true d = refl
-or_swap false true false d = refl
-or_swap false false c d = refl
+or_swap a b c d = or_assoc a b (c || d) ∙ ap (λ t. a || t) (or_front b c d) ∙ sym (or_assoc a c (b || d))
 
 eqb_comm : (x y : ℕ) → eqb x y ≡ eqb y x
-eqb_comm x y =
-    chosen_eq (eqb y x)
-    (λ e. eq-eqb x y (sym (eqb-true y x e)))
-    (λ e. ne_eqb x y (λ z. eqb-false y x e (sym z)))
-
-pub or_false : (a : Bool) → (a || false) ≡ a
-or_false true = refl
-or_false false = refl
+eqb_comm x y = grind (arith, nat_tests)
 
 pub member-append : (x : ℕ) (a b : List ℕ) → member x (a ++ b) ≡ (member x a || member x b)
 unfolding member
@@ -109,10 +85,6 @@ unfolding share
 share-comm a [] = share-none a
 share-comm a (x ∷ b) = share-cons a x b ∙ ap (λ t. member x a || t) (share-comm a b)
 
-either_way : (b : Bool) {a t : Bool} → (b ≡ true → a ≡ true) → (b ≡ false → a ≡ t) → a ≡ (b || t)
-either_way true p q = p refl
-either_way false p q = q refl
-
 -- ---- marks
 
 pub no_marks : Marks (record { marks = replicate most false }) []
@@ -128,9 +100,10 @@ module _ (marks : Names) (names : List ℕ) (m : Marks marks names) where
   unfolding marked
   marked-set x y lx ly =
       let inside : x < length marks.marks = rw m.long lx in
-      either_way (eqb y x)
-      (λ e. rw (eqb-true y x e, get_or-set_same {A = Bool} marks.marks x true false inside))
-      (λ e. rw (get_or-set_other {A = Bool} marks.marks x y true false (eqb-false y x e)) (m.at y ly))
+      ⊎_elim
+      (λ (e : eqb y x ≡ true). rw (e, eqb-true y x e, get_or-set_same {A = Bool} marks.marks x true false inside))
+      (λ (e : eqb y x ≡ false). rw (e, get_or-set_other {A = Bool} marks.marks x y true false (eqb-false y x e)) (m.at y ly))
+      (cases_Bool (eqb y x))
 
   pub mark_one : (x : ℕ) → x < most → Marks (with_mark marks x) (x ∷ names)
   unfolding member
@@ -215,14 +188,6 @@ module _ {marks : Names} where
 pub record Repeats (marks : Names) (names : List ℕ) (r : Bool) : Type 0 where
   pub over : (Γ : List ℕ) → Marks marks Γ → r ≡ (repeats names || share names Γ)
 
-or_true : (a : Bool) → (a || true) ≡ true
-or_true true = refl
-or_true false = refl
-
-or_later : (a b c : Bool) → (b || (a || c)) ≡ ((a || b) || c)
-or_later true b c = or_true b
-or_later false b c = refl
-
 module _ {marks : Names} where
   pub repeats-none : Repeats marks [] false
   unfolding share repeats
@@ -230,28 +195,28 @@ module _ {marks : Names} where
 
   pub repeats-here : {x : ℕ} {xs : List ℕ} {r : Bool} → x < most → Tells marks x r → r ≡ true → Repeats marks (x ∷ xs) true
   unfolding share
-  repeats-here {x} {xs} l t e = record { over = λ Γ m. rw (← t Γ m l, e) (sym (or_true (repeats (x ∷ xs)))) }
+  repeats-here {x} {xs} l t e = record { over = λ Γ m. rw (← t Γ m l, e) (sym (or-true (repeats (x ∷ xs)))) }
 
   pub repeats-later : {after : Names} {x : ℕ} {xs : List ℕ} {r t : Bool} → x < most → Tells marks x t → t ≡ false
       → Adds marks after (x ∷ []) → Repeats after xs r → Repeats marks (x ∷ xs) r
   unfolding share repeats
   repeats-later {after} {x} {xs} l t e f g = record {
-    over = λ Γ m. g.over (x ∷ Γ) (f.over Γ m) ∙ rw (share-cons xs x Γ, ← t Γ m l, e) (or_later (member x xs) (repeats xs) (share xs Γ));
+    over = λ Γ m. g.over (x ∷ Γ) (f.over Γ m) ∙ rw (share-cons xs x Γ, ← t Γ m l, e) (or_front (repeats xs) (member x xs) (share xs Γ) ∙ sym (or_assoc (member x xs) (repeats xs) (share xs Γ)));
   }
 
   -- Of no marks.
   pub repeats-alone : {names : List ℕ} {r : Bool} → Marks marks [] → Repeats marks names r → r ≡ repeats names
-  repeats-alone {names} m f = f.over [] m ∙ rw (share-none names) (or_false (repeats names))
+  repeats-alone {names} m f = f.over [] m ∙ rw (share-none names) (or-false (repeats names))
 
 pub adds_alone : {before after : Names} {names : List ℕ} → Marks before [] → Adds before after names → Marks after names
 unfolding member
 adds_alone {before} {after} {names} m f =
-    same-marks after (names ++ []) (f.over [] m) names (λ x. member-append x names [] ∙ or_false (member x names))
+    same-marks after (names ++ []) (f.over [] m) names (λ x. member-append x names [] ∙ or-false (member x names))
 
 module _ {marks : Names} where
   pub touches_one : {x : ℕ} {r : Bool} → x < most → Tells marks x r → Touches marks (x ∷ []) r
   unfolding share
-  touches_one {x} l t = record { over = λ Γ m. t Γ m l ∙ sym (or_false (member x Γ)) }
+  touches_one {x} l t = record { over = λ Γ m. t Γ m l ∙ sym (or-false (member x Γ)) }
 
   -- The answer of the first test, if it is true.
   pub touches_here : {x : ℕ} {xs : List ℕ} {r : Bool} → x < most → Tells marks x r → r ≡ true → Touches marks (x ∷ xs) r

@@ -1,17 +1,19 @@
 -- What a statement changes, by the case of its node.
-use Rattle.std.specs.Prelude.{ℕ, ◌<◌, ◌≡◌, refl, List, [], ◌∷◌, ◌++◌, Bool, ◌⊎◌, Ok}
-use Rattle.std.proofs.Common.{ap, ◌∙◌, inl, inr, ⊎_elim, arith}
+use Rattle.std.specs.Prelude.{ℕ, ◌<◌, ◌≡◌, refl, List, [], ◌∷◌, ◌++◌, Bool, ◌⊎◌, Ok, Err}
+use Rattle.std.proofs.Common.{sym, ap, ◌∙◌, inl, inr, ⊎_elim, arith}
+use Rattle.std.proofs.lemmas.Bool.{false≢true}
 use Rattle.rules.specs.Image.{missing, Header, Parts, node_of, is_statement, is_lvalue}
 use Rattle.rules.specs.Tree.{reading_at, roots, changed}
-use Rattle.records.specs.Truth.{never}
-use Rattle.records.specs.Decode.{decoded_at}
+use Rattle.records.specs.Decode.{Decoded, decoded_at}
 use Rattle.records.specs.Fits.{Child}
-use Rattle.records.specs.Cases.{Refers, Targeted}
+use Rattle.records.specs.Cases.{Refers, Targeted, root-place}
 use Rattle.records.specs.declared.LValue.{LValue}
 use Rattle.records.specs.declared.Node.{Node}
 use Rattle.records.specs.declared.Node.TheVariants.{Empty, Update, Swap, ConditionalSwap, If, For, Call, Uncall, Block, Constant, Value, Size, Binary, Not, Argument}
-use Rattle.names.specs.Sound.{Standing, Known, Chain, KnownChain, means, refers, standing_child, statement-classed}
-use Rattle.names.specs.Chains.{Naming, KnownNaming, root_of, root-place, no_statements, first_statement_lem}
+use Rattle.names.specs.declared.marks.Names.{Names}
+use Rattle.names.specs.Marks.{most, Touches}
+use Rattle.names.specs.Sound.{Standing, Known, Chain, KnownChain, AsArguments, means, refers, never_refused, standing_child, statement-classed}
+use Rattle.names.specs.Chains.{Naming, KnownNaming, root_of, root-small, no_statements, first_statement_lem}
 
 module _ {class : ℕ → Bool} {nodes : List ℕ} {h : Header} {s : Parts} {n : ℕ} (st : Standing class nodes h s n) where
   -- A target of the node, and a chain that it begins.
@@ -54,25 +56,26 @@ module _ {class : ℕ → Bool} {nodes : List ℕ} {h : Header} {s : Parts} {n :
 
 module _ {nodes : List ℕ} {h : Header} {s : Parts} {n : ℕ} (st : Standing is_statement nodes h s n) where
   -- The empty statement changes nothing.
-  pub changed-nothing : (x : Node) → decoded_at nodes n ≡ Ok x → ((l : LValue) (v o : ℕ) → x ≡ Update l v o → ⊥) → ((l m : LValue) → x ≡ Swap l m → ⊥)
-      → ((l m : LValue) (c : ℕ) → x ≡ ConditionalSwap l m c → ⊥) → ((c y z : ℕ) → x ≡ If c y z → ⊥) → ((v a b c : ℕ) → x ≡ For v a b c → ⊥)
-      → ((p a : ℕ) → x ≡ Call p a → ⊥) → ((p a : ℕ) → x ≡ Uncall p a → ⊥) → ((v c a : ℕ) → x ≡ Block v c a → ⊥) → changed (reading_at h s n).as_stmt ≡ []
+  pub changed-nothing : (d : Decoded) → d ≡ decoded_at nodes n → ((l : LValue) (v o : ℕ) → d ≡ Ok (Update l v o) → ⊥) → ((l m : LValue) → d ≡ Ok (Swap l m) → ⊥)
+      → ((l m : LValue) (c : ℕ) → d ≡ Ok (ConditionalSwap l m c) → ⊥) → ((c y z : ℕ) → d ≡ Ok (If c y z) → ⊥) → ((v a b c : ℕ) → d ≡ Ok (For v a b c) → ⊥)
+      → ((p a : ℕ) → d ≡ Ok (Call p a) → ⊥) → ((p a : ℕ) → d ≡ Ok (Uncall p a) → ⊥) → ((v c a : ℕ) → d ≡ Ok (Block v c a) → ⊥) → changed (reading_at h s n).as_stmt ≡ []
   unfolding changed
-  changed-nothing Empty d nu ns nc ni nf na nv nb = rw (means st d)
-  changed-nothing (Update l v o) d nu ns nc ni nf na nv nb = absurd (nu l v o refl)
-  changed-nothing (Swap l m) d nu ns nc ni nf na nv nb = absurd (ns l m refl)
-  changed-nothing (ConditionalSwap l m c) d nu ns nc ni nf na nv nb = absurd (nc l m c refl)
-  changed-nothing (If c y z) d nu ns nc ni nf na nv nb = absurd (ni c y z refl)
-  changed-nothing (For x a b c) d nu ns nc ni nf na nv nb = absurd (nf x a b c refl)
-  changed-nothing (Call p a) d nu ns nc ni nf na nv nb = absurd (na p a refl)
-  changed-nothing (Uncall p a) d nu ns nc ni nf na nv nb = absurd (nv p a refl)
-  changed-nothing (Block x c a) d nu ns nc ni nf na nv nb = absurd (nb x c a refl)
-  changed-nothing (Constant k) d nu ns nc ni nf na nv nb = absurd (never (statement-classed d st))
-  changed-nothing (Value l) d nu ns nc ni nf na nv nb = absurd (never (statement-classed d st))
-  changed-nothing (Size x) d nu ns nc ni nf na nv nb = absurd (never (statement-classed d st))
-  changed-nothing (Binary o a b) d nu ns nc ni nf na nv nb = absurd (never (statement-classed d st))
-  changed-nothing (Not a) d nu ns nc ni nf na nv nb = absurd (never (statement-classed d st))
-  changed-nothing (Argument l m) d nu ns nc ni nf na nv nb = absurd (never (statement-classed d st))
+  changed-nothing (Ok Empty) e nu ns nc ni nf na nv nb = rw (means st (sym e))
+  changed-nothing (Ok (Update l v o)) e nu ns nc ni nf na nv nb = absurd (nu l v o refl)
+  changed-nothing (Ok (Swap l m)) e nu ns nc ni nf na nv nb = absurd (ns l m refl)
+  changed-nothing (Ok (ConditionalSwap l m c)) e nu ns nc ni nf na nv nb = absurd (nc l m c refl)
+  changed-nothing (Ok (If c y z)) e nu ns nc ni nf na nv nb = absurd (ni c y z refl)
+  changed-nothing (Ok (For x a b c)) e nu ns nc ni nf na nv nb = absurd (nf x a b c refl)
+  changed-nothing (Ok (Call p a)) e nu ns nc ni nf na nv nb = absurd (na p a refl)
+  changed-nothing (Ok (Uncall p a)) e nu ns nc ni nf na nv nb = absurd (nv p a refl)
+  changed-nothing (Ok (Block x c a)) e nu ns nc ni nf na nv nb = absurd (nb x c a refl)
+  changed-nothing (Ok (Constant k)) e nu ns nc ni nf na nv nb = absurd (false≢true (statement-classed (sym e) st))
+  changed-nothing (Ok (Value l)) e nu ns nc ni nf na nv nb = absurd (false≢true (statement-classed (sym e) st))
+  changed-nothing (Ok (Size x)) e nu ns nc ni nf na nv nb = absurd (false≢true (statement-classed (sym e) st))
+  changed-nothing (Ok (Binary o a b)) e nu ns nc ni nf na nv nb = absurd (false≢true (statement-classed (sym e) st))
+  changed-nothing (Ok (Not a)) e nu ns nc ni nf na nv nb = absurd (false≢true (statement-classed (sym e) st))
+  changed-nothing (Ok (Argument l m)) e nu ns nc ni nf na nv nb = absurd (false≢true (statement-classed (sym e) st))
+  changed-nothing (Err r) e nu ns nc ni nf na nv nb = absurd (never_refused st (sym e))
 
   pub changed-update : {o v : ℕ} {l : LValue} → decoded_at nodes n ≡ Ok (Update l v o) → changed (reading_at h s n).as_stmt ≡ root_of l ∷ []
   unfolding changed
@@ -156,3 +159,11 @@ module _ {nodes : List ℕ} {h : Header} {s : Parts} {n : ℕ} (st : Standing is
           ⊎_elim
           (λ (c : x ≡ Swap l m). changed-plain (d ∙ ap Ok c))
           (λ (c : (e : ℕ) × (x ≡ ConditionalSwap l m e)). changed-conditional (d ∙ ap Ok c.1)) o
+
+    -- A call touches the names that its arguments do, a swap those that its targets do.
+    module _ {marks : Names} {r : Bool} where
+      pub touches_call : {a : ℕ} → Calls x a → AsArguments nodes a (λ s ls. Touches marks (roots ls) r) → Touches marks (changed (reading_at h s n).as_stmt) r
+      touches_call o f = rw (changed-call o) (f h s (call_arguments o))
+
+      pub touches_swap : {l m : LValue} → Swaps x l m → (root_of l < most → root_of m < most → Touches marks (root_of l ∷ root_of m ∷ []) r) → Touches marks (changed (reading_at h s n).as_stmt) r
+      touches_swap {l} {m} o f = let g = swapped {l = l} {m = m} o in rw (changed-swap {l = l} {m = m} o) (f (root-small g.0) (root-small g.1))

@@ -20,13 +20,10 @@ pub fn occurs(nodes: &[u8], n: u16, x: u16) -> bool
     requires { Known is_expression nodes.now n }
     ensures { AsExpression nodes.now n (λ s e. result ≡ member x (variables e)) }
 {
-    let Ok(node) = records::expression_at(nodes, n) else {
-        return false;
-    };
-    match node {
-        Node::Value { lvalue } => lvalue.root() == x || index_occurs(nodes, lvalue, x),
-        Node::Binary { left, right, .. } => occurs(nodes, left, x) || occurs(nodes, right, x),
-        Node::Not { operand } => occurs(nodes, operand, x),
+    match records::expression_at(nodes, n) {
+        Ok(Node::Value { lvalue }) => lvalue.root() == x || index_occurs(nodes, lvalue, x),
+        Ok(Node::Binary { left, right, .. }) => occurs(nodes, left, x) || occurs(nodes, right, x),
+        Ok(Node::Not { operand }) => occurs(nodes, operand, x),
         _ => false,
     }
 }
@@ -51,19 +48,16 @@ pub fn insert_variables(nodes: &[u8], n: u16, names: &mut Names)
     requires { Known is_expression nodes.now n }
     ensures { AsExpression nodes.now n (λ s e. Adds names.old names.new (variables e)) }
 {
-    let Ok(node) = records::expression_at(nodes, n) else {
-        return;
-    };
-    match node {
-        Node::Value { lvalue } => {
+    match records::expression_at(nodes, n) {
+        Ok(Node::Value { lvalue }) => {
             names.insert(lvalue.root());
             insert_index(nodes, lvalue, names);
         }
-        Node::Binary { left, right, .. } => {
+        Ok(Node::Binary { left, right, .. }) => {
             insert_variables(nodes, left, names);
             insert_variables(nodes, right, names);
         }
-        Node::Not { operand } => insert_variables(nodes, operand, names),
+        Ok(Node::Not { operand }) => insert_variables(nodes, operand, names),
         _ => {}
     }
 }
@@ -152,20 +146,17 @@ pub fn changes(nodes: &[u8], n: u16, names: &Names) -> bool
     requires { Known is_statement nodes.now n }
     ensures { AsStatement nodes.now n (λ s t. Touches names.now (changed t) result) }
 {
-    let Ok(node) = records::node_at(nodes, n) else {
-        return false;
-    };
-    match node {
-        Node::Update { target, .. } => names.contains(target.root()),
-        Node::Swap { left, right } | Node::ConditionalSwap { left, right, .. } => either_marked(
+    match records::node_at(nodes, n) {
+        Ok(Node::Update { target, .. }) => names.contains(target.root()),
+        Ok(Node::Swap { left, right } | Node::ConditionalSwap { left, right, .. }) => either_marked(
             names, left, right,
         ),
-        Node::If { yes, no, .. } => changes(nodes, yes, names) || changes(nodes, no, names),
-        Node::For { body, .. } => changes(nodes, body, names),
-        Node::Call { argument, .. } | Node::Uncall { argument, .. } => roots_marked(
+        Ok(Node::If { yes, no, .. }) => changes(nodes, yes, names) || changes(nodes, no, names),
+        Ok(Node::For { body, .. }) => changes(nodes, body, names),
+        Ok(Node::Call { argument, .. } | Node::Uncall { argument, .. }) => roots_marked(
             nodes, argument, names,
         ),
-        Node::Block { statement, .. } => list_changes(nodes, statement, names),
+        Ok(Node::Block { statement, .. }) => list_changes(nodes, statement, names),
         _ => false,
     }
 }

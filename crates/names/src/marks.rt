@@ -21,21 +21,17 @@ impl Names {
 
     // Whether a name is in it.
     pub fn contains(&self, x: u16) -> bool
-        ensures is { x < most → result ≡ marked self.now x }
+        ensures is { result ≡ marked self.now x }
         ensures tells { Tells self.now x result }
     {
-        let i = usize::from(x);
-        i < 1024 && self.marks[i]
+        records::get_or(&self.marks, usize::from(x), false)
     }
 
     // Takes one more name in.
     pub fn insert(&mut self, x: u16)
         ensures { x < most → Adds self.old self.new (x ∷ []) }
     {
-        let i = usize::from(x);
-        if i < 1024 {
-            self.marks[i] = true;
-        }
+        records::put(&mut self.marks, usize::from(x), true);
     }
 
     // Takes the count names from x on in.

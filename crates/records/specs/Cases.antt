@@ -1,11 +1,12 @@
 -- What each case of a decoded node means as a tree, and what its fields refer to.
-use Rattle.std.specs.Prelude.{ℕ, ◌+◌, ◌≤◌, ◌<◌, ◌≡◌, ◌∷◌, true, false, cond, ◌⊎◌, Ok, Err}
+use Rattle.std.specs.Prelude.{ℕ, ◌+◌, ◌≤◌, ◌<◌, ◌≡◌, refl, ◌∷◌, true, false, cond, ◌⊎◌, Ok, Err}
 use Rattle.rules.specs.Words.{forward, inverse, update_of, binary_of, complement}
 use Rattle.rules.specs.Image.{missing, Header, Parts, variable_of, is_constant, constant_of, is_statement, is_expression, is_lvalue}
 use Rattle.rules.specs.Tree as tree
-use Rattle.rules.specs.Tree.{reading_at, range}
+use Rattle.rules.specs.Tree.{reading_at, range, root}
 use Rattle.records.specs.Fits.{Child}
 pub use Rattle.records.specs.LValues.{node_of_lvalue}
+use Rattle.records.specs.LValues.{root_of}
 use Rattle.records.specs.declared.LValue.{LValue}
 use Rattle.records.specs.declared.LValue.TheVariants.{Variable, Element, Unsafe}
 use Rattle.records.specs.declared.Node.{Node}
@@ -17,6 +18,13 @@ abbrev pub place_of : Header → Parts → LValue → tree.LValue
 place_of h s (Variable n x) = tree.whole n x
 place_of h s (Element n x i) = tree.entry n false x (reading_at h s i).as_expr
 place_of h s (Unsafe n x i) = tree.entry n true x (reading_at h s i).as_expr
+
+-- The tree's place has the L-value's variable as its root.
+pub root-place : (h : Header) (s : Parts) (l : LValue) → root (place_of h s l) ≡ root_of l
+unfolding root
+root-place h s (Variable n x) = refl
+root-place h s (Element n x i) = refl
+root-place h s (Unsafe n x i) = refl
 
 abbrev pub value_of : Header → Parts → LValue → tree.Expr
 value_of h s (Variable n x) =

@@ -1,5 +1,6 @@
 -- What a node's record is taken apart into. "A target that turns out to be no L-value is answered on the spot": 5, at the node that refers.
-use Rattle.std.specs.Prelude.{ℕ, List, cond, eqb, Option, Some, None, Result, Ok, Err}
+use Rattle.std.specs.Prelude.{ℕ, List, ◌≡◌, cond, eqb, Option, Some, None, Result, Ok, Err}
+use Rattle.std.proofs.Common.{sym, ap, ◌∙◌}
 use Rattle.rules.specs.Image as rules
 use Rattle.rules.specs.Image.{node_of}
 use Rattle.records.specs.declared.LValue.{LValue}
@@ -63,6 +64,10 @@ decoded_by s n r =
 -- Node n as its case.
 abbrev pub decoded_at : List ℕ → ℕ → Decoded
 decoded_at s n = decoded_by s n (node_of s n)
+
+-- What a decoder answered, and what was found in it.
+pub decoded : {d r : Decoded} {x y : Node} → r ≡ d → r ≡ Ok x → x ≡ y → d ≡ Ok y
+decoded e f g = sym e ∙ f ∙ ap Ok g
 
 -- Node n as an argument, with what follows it.
 abbrev pub argument_at : List ℕ → ℕ → ℕ → Decoded

@@ -2,8 +2,8 @@
 use Rattle.std.specs.Prelude.{ℕ, ◌≤◌, ◌<◌, ◌≡◌, List, true, false, eqb, leb}
 use Rattle.std.proofs.Math.Path.{refl}
 use Rattle.std.proofs.Common.{arith, leb-true, ne_eqb}
+use Rattle.std.proofs.lemmas.Bool.{and_parts}
 use Rattle.rules.specs.Image.{Node, is_expression}
-use Rattle.records.specs.Truth.{both}
 use Rattle.records.specs.Records.{headed}
 use Rattle.records.specs.Decode.{lvalue_by, expression_by, decoded_by}
 
@@ -17,7 +17,7 @@ module _ (n : ℕ) (r : Node) where
   expression-headed = refl
 
   other : (k : ℕ) → k < 20 → is_expression r.kind ≡ true → eqb r.kind k ≡ false
-  other k small i = let low : 20 ≤ r.kind = leb-true _ _ (both (leb 20 r.kind) _ i).0 in ne_eqb r.kind k (λ e. omega arith)
+  other k small i = let low : 20 ≤ r.kind = leb-true _ _ (and_parts (leb 20 r.kind) _ i).0 in ne_eqb r.kind k (λ e. omega arith)
 
   pub decoded_expression : (s : List ℕ) → is_expression r.kind ≡ true → decoded_by s n r ≡ expression_by n r
   unfolding decoded_by

@@ -7,11 +7,12 @@ use native.Mathlib.Omega.{arith}
 use borrow.Author.Tests.{leb-true, eqb-true}
 use Rattle.std.proofs.Math.ListN.{get_or, get_or-eq_default}
 use Rattle.std.proofs.Math.Seq.{get_or-drop}
+use Rattle.std.proofs.lemmas.Bool.{and_parts}
 use Rattle.rules.specs.Image.{missing, Header, Parts, Node, node_of, is_statement, is_expression, is_lvalue}
 use Rattle.rules.specs.Form.{class_of, fields}
 use Rattle.rules.specs.Tree.{is_reference, list, Reading, no_reading, expr_of, lvalue_of, stmt_of, reading_of, readings, reading_at}
-use Rattle.records.specs.Truth.{both, same-choice, past, last, every, at_every}
 use Rattle.records.specs.Fits.{Fits, Child, reference-behind, next_statement_lem, next_lvalue_lem}
+use Rattle.records.specs.Truth.{same-choice, past, last, every, at_every}
 
 -- Two ways to read the nodes behind n that agree read a record that fits alike.
 module _ (h : Header) (s : Parts) (n : ℕ) (r : Node) (small : n < missing) (f : Fits h s.nodes n r)
@@ -31,8 +32,8 @@ module _ (h : Header) (s : Parts) (n : ℕ) (r : Node) (small : n < missing) (f 
   stmt_same : is_statement r.kind ≡ true → stmt_of n r at ≡ stmt_of n r at'
   unfolding stmt_of fields
   stmt_same i =
-      let low : 1 ≤ r.kind = leb-true _ _ (both (leb 1 r.kind) _ i).0 in
-      let high : r.kind ≤ 9 = leb-true _ _ (both (leb 1 r.kind) _ i).1 in
+      let low : 1 ≤ r.kind = leb-true _ _ (and_parts (leb 1 r.kind) _ i).0 in
+      let high : r.kind ≤ 9 = leb-true _ _ (and_parts (leb 1 r.kind) _ i).1 in
       same-choice (eqb r.kind 1) (λ e. refl)
       (λ n₁. same-choice (eqb r.kind 2) (λ e. let k = eqb-true r.kind 2 e in rw (same-a (rw k), same-b (rw k)))
       (λ n₂. same-choice (eqb r.kind 3) (λ e. let k = eqb-true r.kind 3 e in rw (same-a (rw k), same-b (rw k)))
@@ -48,8 +49,8 @@ module _ (h : Header) (s : Parts) (n : ℕ) (r : Node) (small : n < missing) (f 
   expr_same : is_expression r.kind ≡ true → expr_of s n r at ≡ expr_of s n r at'
   unfolding expr_of fields
   expr_same i =
-      let low : 20 ≤ r.kind = leb-true _ _ (both (leb 20 r.kind) _ i).0 in
-      let high : r.kind ≤ 26 = leb-true _ _ (both (leb 20 r.kind) _ i).1 in
+      let low : 20 ≤ r.kind = leb-true _ _ (and_parts (leb 20 r.kind) _ i).0 in
+      let high : r.kind ≤ 26 = leb-true _ _ (and_parts (leb 20 r.kind) _ i).1 in
       same-choice (eqb r.kind 20) (λ e. refl)
       (λ n₁. same-choice (eqb r.kind 21) (λ e. refl)
       (λ n₂. same-choice (eqb r.kind 22) (λ e. let k = eqb-true r.kind 22 e in rw (same-b (rw k)))
@@ -63,8 +64,8 @@ module _ (h : Header) (s : Parts) (n : ℕ) (r : Node) (small : n < missing) (f 
   lvalue-same : is_lvalue r.kind ≡ true → lvalue_of n r at ≡ lvalue_of n r at'
   unfolding lvalue_of fields every
   lvalue-same i =
-      let low : 21 ≤ r.kind = leb-true _ _ (both (leb 21 r.kind) _ i).0 in
-      let high : r.kind ≤ 23 = leb-true _ _ (both (leb 21 r.kind) _ i).1 in
+      let low : 21 ≤ r.kind = leb-true _ _ (and_parts (leb 21 r.kind) _ i).0 in
+      let high : r.kind ≤ 23 = leb-true _ _ (and_parts (leb 21 r.kind) _ i).1 in
       same-choice (eqb r.kind 21) (λ e. refl)
       (λ n₁.
       let l : 22 ≤ r.kind = past 21 _ low n₁ in

@@ -1,23 +1,7 @@
--- Tests taken apart: what a true conjunction says, and a choice by its two cases.
-use Rattle.std.specs.Prelude.{◌≡◌, refl, Bool, true, false, cond, ◌&&◌, ◌||◌, ◌⊎◌, ℕ, zero, suc, ◌+◌, ◌≤◌, ◌<◌, eqb}
-use Rattle.std.proofs.Common.{inl, inr, ⊎_elim, arith, eqb-true}
-use Rattle.std.proofs.lemmas.Bool.{eqb-false}
-
-pub never : false ≡ true → ⊥
-never e = let z : ◌≡◌ {A = ℕ} 0 1 = cc in omega arith
-
-pub both : (a b : Bool) → a && b ≡ true → (a ≡ true) × (b ≡ true)
-both true b e = (refl, e)
-both false b e = absurd (never e)
-
-pub either : (a b : Bool) → a || b ≡ true → (a ≡ true) ⊎ (b ≡ true)
-either true b e = inl refl
-either false b e = inr e
-
--- A choice has a property if each of its sides has, where it is taken.
-pub chosen : {A : Type 0} (P : A → Type 0) (b : Bool) {x y : A} → (b ≡ true → P x) → (b ≡ false → P y) → P (cond b x y)
-chosen P true p q = p refl
-chosen P false p q = q refl
+-- Tests over numbers: two choices by one test, what is left past a number, and a test that holds in a whole range, computed once.
+use Rattle.std.specs.Prelude.{◌≡◌, refl, Bool, true, false, cond, ◌&&◌, ℕ, zero, suc, ◌+◌, ◌≤◌, ◌<◌, eqb}
+use Rattle.std.proofs.Common.{⊎_elim, arith}
+use Rattle.std.proofs.lemmas.Bool.{eqb-false, and_parts, cases_eq}
 
 -- Two choices by one test are equal if their sides are, where they are taken.
 pub same-choice : {A : Type 0} (b : Bool) {x x' y y' : A} → (b ≡ true → x ≡ x') → (b ≡ false → y ≡ y') → cond b x y ≡ cond b x' y'
@@ -31,14 +15,7 @@ past k x low e = omega (arith, eqb-false x k e)
 pub last : (k x : ℕ) → k ≤ x → eqb x k ≡ false → x ≤ k + 1 → x ≡ k + 1
 last k x low e high = omega (arith, eqb-false x k e)
 
-first_or_later : (k x : ℕ) → k ≤ x → (x ≡ k) ⊎ (suc k ≤ x)
-first_or_later k x low = chosen_by (eqb x k) refl
-  where
-    chosen_by : (b : Bool) → eqb x k ≡ b → (x ≡ k) ⊎ (suc k ≤ x)
-    chosen_by true e = inl (eqb-true x k e)
-    chosen_by false e = inr (omega (arith, eqb-false x k e))
-
--- A test that holds at each of the count numbers from k on, computed once.
+-- A test that holds at each of the count numbers from k on.
 unfoldable pub every : (ℕ → Bool) → ℕ → ℕ → Bool
 every test k zero = true
 every test k (suc count) = test k && every test (suc k) count
@@ -47,5 +24,5 @@ pub at_every : (test : ℕ → Bool) (k count x : ℕ) → every test k count �
 unfolding every
 at_every test k zero x e low high = absurd (omega arith)
 at_every test k (suc count) x e low high =
-    let p = both (test k) (every test (suc k) count) e in
-    ⊎_elim (λ (t : x ≡ k). rw t p.0) (λ (t : suc k ≤ x). at_every test (suc k) count x p.1 t (omega arith)) (first_or_later k x low)
+    let p = and_parts (test k) (every test (suc k) count) e in
+    ⊎_elim (λ (t : x ≡ k). rw t p.0) (λ (t : x ≡ k → ⊥). at_every test (suc k) count x p.1 (omega arith) (omega arith)) (cases_eq x k)

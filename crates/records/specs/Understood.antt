@@ -3,10 +3,10 @@ use Rattle.std.specs.Prelude.{ℕ, ◌+◌, ◌≤◌, ◌<◌, ◌≡◌, refl,
 use Rattle.std.proofs.Common.{◌∙◌, ⊎_elim, arith}
 use Rattle.std.proofs.Math.Bool.{true}
 use borrow.Author.Tests.{ltb-true, leb-true, eqb-true, eqb-false, le-leb}
+use Rattle.std.proofs.lemmas.Bool.{and_parts, cond_both, or_cases}
 use Rattle.rules.specs.Image.{missing, Header, Parts, Node, node_of, is_statement, is_expression, is_lvalue}
 use Rattle.rules.specs.Form.{fields, field_fits, record_fits}
 use Rattle.rules.specs.Tree.{expr_of, lvalue_of, stmt_of, reading_at}
-use Rattle.records.specs.Truth.{both, either, chosen, past, last}
 use Rattle.records.specs.Fits.{Child, Fits, fits, child, child_or_missing, next_lvalue_lem}
 use Rattle.records.specs.Reading.{stmt_reading, expr_reading, lvalue-reading, arguments-reading}
 use Rattle.records.specs.Cases.{place_of, value_of, node_of_lvalue, Named, Targeted, Means, Refers, Understood}
@@ -14,6 +14,7 @@ use Rattle.records.specs.Decode.{lvalue_by, lvalue_at, Decoded, Decoded, with_ta
 use Rattle.records.specs.declared.LValue.{LValue}
 use Rattle.records.specs.declared.Node as case
 use Rattle.records.specs.declared.refusal.Refusal.{Refusal}
+use Rattle.records.specs.Truth.{past, last}
 
 -- What is known of a node that is an L-value.
 pub record Placed (h : Header) (s : Parts) (m : ℕ) (l : LValue) : Type 0 where
@@ -38,12 +39,12 @@ module _ (h : Header) (s : Parts) (n : ℕ) (r : Node) (f : Fits h s.nodes n r)
   lvalue-stands : is_lvalue r.kind ≡ true → Stands h s n (lvalue_by n r)
   unfolding lvalue_by lvalue_of expr_of field_fits fields
   lvalue-stands i =
-      let low : 21 ≤ r.kind = leb-true _ _ (both (leb 21 r.kind) _ i).0 in
-      let high : r.kind ≤ 23 = leb-true _ _ (both (leb 21 r.kind) _ i).1 in
-      chosen (Stands h s n) (eqb r.kind 21)
+      let low : 21 ≤ r.kind = leb-true _ _ (and_parts (leb 21 r.kind) _ i).0 in
+      let high : r.kind ≤ 23 = leb-true _ _ (and_parts (leb 21 r.kind) _ i).1 in
+      cond_both (eqb r.kind 21) _ _ (Stands h s n)
       (λ e. let k = eqb-true r.kind 21 e in
       record { place = as-lvalue i ∙ rw k; value = as-expr (rw k) ∙ rw k; here = refl; names = ltb-true _ _ (rw k at f.field_a) })
-      (λ n₁. chosen (Stands h s n) (eqb r.kind 22)
+      (λ n₁. cond_both (eqb r.kind 22) _ _ (Stands h s n)
       (λ e. let k = eqb-true r.kind 22 e in
       record {
         place = as-lvalue i ∙ rw k;
@@ -63,16 +64,16 @@ module _ (h : Header) (s : Parts) (n : ℕ) (r : Node) (f : Fits h s.nodes n r)
   expression-understood : is_expression r.kind ≡ true → Understood h s n (expression_by n r)
   unfolding expression_by expr_of field_fits fields
   expression-understood i =
-      let low : 20 ≤ r.kind = leb-true _ _ (both (leb 20 r.kind) _ i).0 in
-      let high : r.kind ≤ 26 = leb-true _ _ (both (leb 20 r.kind) _ i).1 in
-      chosen (Understood h s n) (eqb r.kind 20)
+      let low : 20 ≤ r.kind = leb-true _ _ (and_parts (leb 20 r.kind) _ i).0 in
+      let high : r.kind ≤ 26 = leb-true _ _ (and_parts (leb 20 r.kind) _ i).1 in
+      cond_both (eqb r.kind 20) _ _ (Understood h s n)
       (λ e. let k = eqb-true r.kind 20 e in (as-expr i ∙ rw k, ltb-true _ _ (rw k at f.field_a)))
-      (λ n₁. chosen (Understood h s n) (eqb r.kind 24)
+      (λ n₁. cond_both (eqb r.kind 24) _ _ (Understood h s n)
       (λ e. let k = eqb-true r.kind 24 e in (as-expr i ∙ rw k, ltb-true _ _ (rw k at f.field_a)))
-      (λ n₂. chosen (Understood h s n) (eqb r.kind 25)
+      (λ n₂. cond_both (eqb r.kind 25) _ _ (Understood h s n)
       (λ e. let k = eqb-true r.kind 25 e in
       (as-expr i ∙ rw k, (child h s.nodes n is_expression r.a (rw k at f.field_a), child h s.nodes n is_expression r.b (rw k at f.field_b))))
-      (λ n₃. chosen (Understood h s n) (eqb r.kind 26)
+      (λ n₃. cond_both (eqb r.kind 26) _ _ (Understood h s n)
       (λ e. let k = eqb-true r.kind 26 e in (as-expr i ∙ rw k, child h s.nodes n is_expression r.a (rw k at f.field_a)))
       (λ n₄.
       let at_least : 21 ≤ r.kind = omega (arith, eqb-false r.kind 20 n₁) in
@@ -92,29 +93,29 @@ module _ (h : Header) (s : Parts) (n : ℕ) (r : Node) (f : Fits h s.nodes n r)
     declares : field_fits h s.nodes n r.b 9 r.a ≡ true → r.a + r.b ≤ h.variables
     unfolding field_fits
     declares =
-        chosen (λ t. t ≡ true → r.a + r.b ≤ h.variables) (eqb r.b 0)
+        cond_both (eqb r.b 0) _ _ (λ t. t ≡ true → r.a + r.b ≤ h.variables)
         (λ e z. omega (arith, eqb-true r.b 0 e, eqb-true r.a 0 z)) (λ e z. leb-true _ _ z)
 
     decoded_understood : Understood h s n (decoded_by s.nodes n r)
     unfolding decoded_by stmt_of field_fits fields
     decoded_understood =
-        chosen (Understood h s n) (eqb r.kind 1)
+        cond_both (eqb r.kind 1) _ _ (Understood h s n)
         (λ e. let k = eqb-true r.kind 1 e in (as-stmt (rw k) ∙ rw k, tt))
-        (λ n₁. chosen (Understood h s n) (eqb r.kind 2)
+        (λ n₁. cond_both (eqb r.kind 2) _ _ (Understood h s n)
         (λ e. let k = eqb-true r.kind 2 e in
         target (Understood h s n) r.a _ (child h s.nodes n is_lvalue r.a (rw k at f.field_a))
         (λ l p t. (as-stmt (rw k) ∙ rw (k, p), (t, child h s.nodes n is_expression r.b (rw k at f.field_b)))))
-        (λ n₂. chosen (Understood h s n) (eqb r.kind 3)
+        (λ n₂. cond_both (eqb r.kind 3) _ _ (Understood h s n)
         (λ e. let k = eqb-true r.kind 3 e in
         target (Understood h s n) r.a _ (child h s.nodes n is_lvalue r.a (rw k at f.field_a))
         (λ l p t. target (Understood h s n) r.b _ (child h s.nodes n is_lvalue r.b (rw k at f.field_b))
         (λ m q u. (as-stmt (rw k) ∙ rw (k, p, q), (t, u)))))
-        (λ n₃. chosen (Understood h s n) (eqb r.kind 4)
+        (λ n₃. cond_both (eqb r.kind 4) _ _ (Understood h s n)
         (λ e. let k = eqb-true r.kind 4 e in
         target (Understood h s n) r.b _ (child h s.nodes n is_lvalue r.b (rw k at f.field_b))
         (λ l p t. target (Understood h s n) r.c _ (child h s.nodes n is_lvalue r.c (rw k at f.field_c))
         (λ m q u. (as-stmt (rw k) ∙ rw (k, p, q), (child h s.nodes n is_expression r.a (rw k at f.field_a), (t, u))))))
-        (λ n₄. chosen (Understood h s n) (eqb r.kind 5)
+        (λ n₄. cond_both (eqb r.kind 5) _ _ (Understood h s n)
         (λ e. let k = eqb-true r.kind 5 e in (
           as-stmt (rw k) ∙ rw k,
           (
@@ -122,7 +123,7 @@ module _ (h : Header) (s : Parts) (n : ℕ) (r : Node) (f : Fits h s.nodes n r)
             (child h s.nodes n is_statement r.b (rw k at f.field_b), child h s.nodes n is_statement r.c (rw k at f.field_c)),
           ),
         ))
-        (λ n₅. chosen (Understood h s n) (eqb r.kind 6)
+        (λ n₅. cond_both (eqb r.kind 6) _ _ (Understood h s n)
         (λ e. let k = eqb-true r.kind 6 e in (
           as-stmt (rw k) ∙ rw k,
           (
@@ -133,23 +134,23 @@ module _ (h : Header) (s : Parts) (n : ℕ) (r : Node) (f : Fits h s.nodes n r)
             ),
           ),
         ))
-        (λ n₆. chosen (Understood h s n) (eqb r.kind 7)
+        (λ n₆. cond_both (eqb r.kind 7) _ _ (Understood h s n)
         (λ e. let k = eqb-true r.kind 7 e in
         (as-stmt (rw k) ∙ rw k, (ltb-true _ _ (rw k at f.field_a), child_or_missing h s.nodes n is_lvalue r.b (rw k at f.field_b))))
-        (λ n₇. chosen (Understood h s n) (eqb r.kind 8)
+        (λ n₇. cond_both (eqb r.kind 8) _ _ (Understood h s n)
         (λ e. let k = eqb-true r.kind 8 e in
         (as-stmt (rw k) ∙ rw k, (ltb-true _ _ (rw k at f.field_a), child_or_missing h s.nodes n is_lvalue r.b (rw k at f.field_b))))
-        (λ n₈. chosen (Understood h s n) (eqb r.kind 9)
+        (λ n₈. cond_both (eqb r.kind 9) _ _ (Understood h s n)
         (λ e. let k = eqb-true r.kind 9 e in
         (as-stmt (rw k) ∙ rw k, (declares (rw k at f.field_a), child_or_missing h s.nodes n is_statement r.c (rw k at f.field_c))))
         (λ n₉. expression-understood
         (⊎_elim
         (λ i.
-        let low : 1 ≤ r.kind = leb-true _ _ (both (leb 1 r.kind) _ i).0 in
-        let high : r.kind ≤ 9 = leb-true _ _ (both (leb 1 r.kind) _ i).1 in
+        let low : 1 ≤ r.kind = leb-true _ _ (and_parts (leb 1 r.kind) _ i).0 in
+        let high : r.kind ≤ 9 = leb-true _ _ (and_parts (leb 1 r.kind) _ i).1 in
         let over : 10 ≤ r.kind = past 9 _ (past 8 _ (past 7 _ (past 6 _ (past 5 _ (past 4 _ (past 3 _ (past 2 _ (past 1 _ low n₁) n₂) n₃) n₄) n₅) n₆) n₇) n₈) n₉ in
         absurd (omega arith))
-        (λ i. i) (either (is_statement r.kind) _ f.known)))))))))))
+        (λ i. i) (or_cases (is_statement r.kind) _ f.known)))))))))))
 
 -- The laws to prove code by, over an image whose node records fit.
 module _ (h : Header) (s : Parts) (few : h.nodes ≤ missing)

@@ -2,6 +2,8 @@
 ghost use Rattle.std.specs.Prelude.{◌≡◌, ℕ, ◌+◌, ◌*◌, ◌<◌, get_or};
 ghost use Rattle.rules.specs.Image.{le16, le64};
 
+use crate::slices::get_or;
+
 // The N bytes from a place on.
 pub fn bytes_at<const N: usize>(s: &[u8], at: usize) -> [u8; N]
     ensures { (k : ℕ) → k < N → get_or result k 0 ≡ get_or s.now (at + k) 0 }
@@ -22,7 +24,7 @@ pub fn bytes_at<const N: usize>(s: &[u8], at: usize) -> [u8; N]
 pub fn u8_at(s: &[u8], at: usize) -> u8
     ensures { result ≡ get_or s.now at 0 }
 {
-    s.get(at).copied().unwrap_or(0)
+    get_or(s, at, 0)
 }
 
 // The number of two bytes, the low one first.

@@ -6,6 +6,7 @@ mod bytes;
 mod fields;
 mod parts;
 mod refusal;
+mod slices;
 mod slot;
 
 ghost use Rattle.std.specs.Prelude.{◌≡◌, true, ◌+◌, ◌*◌, ◌<◌, get_or, length};
@@ -19,6 +20,7 @@ use bytes::{bytes_at, le16};
 pub use fields::{Class, Fields, MISSING, classes_of};
 pub use parts::{Parts, part, parts_of};
 pub use refusal::{Refusal, Rule, Verdict, numbers};
+pub use slices::{get_or, put};
 pub use slot::{NO_SLOT, Slot};
 
 // Header and parts are handed on side by side: as fields of one struct each would stand in the clauses behind its name, and none would
@@ -62,6 +64,22 @@ pub struct Procedure {
     pub count: u16,
     pub parameters: u16,
     pub body: u16,
+}
+
+impl Procedure {
+    // Where its variables end.
+    pub fn end(self) -> u32
+        ensures { result ≡ self.first + self.count }
+    {
+        u32::from(self.first) + u32::from(self.count)
+    }
+
+    // Where its locals begin: "parameters come first".
+    pub fn locals(self) -> u32
+        ensures { result ≡ self.first + self.parameters }
+    {
+        u32::from(self.first) + u32::from(self.parameters)
+    }
 }
 
 // The record of procedure p in the procedures' part.
@@ -363,7 +381,9 @@ fn conditional_swap_of(nodes: &[u8], n: u16, r: RawNode) -> Result<Node, Refusal
     })
 }
 
-// The record r of node n taken apart: its case, or the refusal with the place.
+// The record r of node n taken apart: its case, or the refusal with the place. Inlined, here and in `node_at`, so that the case does
+// not go through memory (D23).
+#[inline(always)]
 fn taken_apart(nodes: &[u8], n: u16, r: RawNode) -> Result<Node, Refusal>
     ensures { result ≡ decoded_by nodes.now n (as_node r) }
 {
@@ -431,6 +451,7 @@ pub fn expression_at(nodes: &[u8], n: u16) -> Result<Node, Refusal>
 }
 
 // Node n as its case, or the refusal with the place.
+#[inline(always)]
 pub fn node_at(nodes: &[u8], n: u16) -> Result<Node, Refusal>
     ensures { result ≡ decoded_at nodes.now n }
 {

@@ -4,10 +4,9 @@ use mathlib.Core.Path.{◌≡◌, refl, sym, ap, ◌∙◌}
 use mathlib.Core.List.{List, [], ◌++◌}
 use mathlib.Core.Bool.{Bool}
 use native.Mathlib.Omega.{arith}
-use native.Mathlib.Nat.{sub-zero}
 use Rattle.std.proofs.lemmas.Bool.{eqb-false}
 use lib.ListN.{length, take, drop, replicate}
-use lib.Seq.{take-nil, take-take, take_at}
+use lib.Seq.{take-take, take_at}
 use Rattle.rules.specs.Image.{Header, header_of, Parts, parts_of}
 use Rattle.rules.specs.Form.{Verdict}
 use Rattle.records.specs.Refusals.{number_of, as_verdict, counted}
@@ -20,19 +19,15 @@ use Rattle.rules.specs.Run.{Given, room_before, last_of, execution, entry_refusa
 use Rattle.rules.specs.Promised.{Ran}
 use Rattle.laws.specs.Entries.{few_events}
 use Rattle.entry.proofs.Outcomes.{run-refused, refused-trace, run-finished, run-stopped, execution-is, cells_begin}
-use Rattle.expressions.specs.Relations.{saturated, Traced, Matches, goes_on, is_stopped}
+use Rattle.expressions.specs.Relations.{saturated, Matches, goes_on, is_stopped}
 use Rattle.expressions.specs.Standing.{ran, came}
+use Rattle.expressions.specs.Trace.{traced_none}
 use Rattle.expressions.specs.declared.trace.Run.{Run}
 use Rattle.records.specs.Slots.{Table}
 use Rattle.runner.specs.Runs.{as_given, Ready, cells_of, slots_begun, Begins, Executed, Worked, Finished}
 use Rattle.runner.proofs.Program.{keeps, inside, world, starting, stands, last_one}
 
 -- ---- the execution
-
--- A trace of zeros shows no events.
-nothing_traced : (trace : List ℕ) → trace ≡ replicate (length trace) 0 → Traced trace 0 []
-unfolding saturated
-nothing_traced trace e = record { shown = rw (take-nil, sub-zero) e; counted = refl }
 
 module _ {h : Header} {s : Parts} {works : ℕ} {lengths store : List ℕ} (R : Ready h s works lengths store) (inverse : Bool) (run run' : Run) (r : Result ⊤ Refusal)
     (slots slots' slots'' : Table) (cells cells'' : List ℕ) (p n : ℕ) where
@@ -45,7 +40,7 @@ module _ {h : Header} {s : Parts} {works : ℕ} {lengths store : List ℕ} (R : 
       rw (execution-is h s (as_given [] inverse lengths store 0 run.left 0) (keeps R).some)
       ((rw (ep, en, e₀) at f) (world R) (starting R) (stands R slots slots' long long' es) ((world R).within (h.procedures - 1) (last_one R))
       (record { memory = store ++ replicate (room_before h s h.variables) 0; left = run.left; events = [] })
-      (record { going = refl; memory_is = sym ec; left_is = refl; traced = nothing_traced _ et })).is
+      (record { going = refl; memory_is = sym ec; left_is = refl; traced = traced_none _ et })).is
 
   -- The same over the first of the work words.
   pub worked : (work copied rest : List ℕ) (total : ℕ) → work ≡ replicate works 0 → copied ≡ store ++ drop (length store) work → total ≡ cells_of h s (length store) → length cells'' ≡ total

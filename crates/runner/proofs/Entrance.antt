@@ -10,19 +10,23 @@ use Rattle.rules.specs.Image.{Header, header_of, Parts, parts_of}
 use Rattle.records.specs.declared.refusal.Refusal.{Refusal}
 use Rattle.expressions.specs.declared.trace.Run.{Run}
 use Rattle.rules.specs.Form.{Verdict}
-use Rattle.rules.specs.Check.{verdict}
+use Rattle.rules.specs.Check.{slow, verdict}
 use Rattle.rules.specs.Run.{entry_refusal, execution}
 use Rattle.entry.specs.Refusals.{Called, entry_tests}
-use Rattle.entry.proofs.Accepted.{formed, laid, called}
+use Rattle.laws.specs.Records.{sound}
 use Rattle.entry.proofs.Outcomes.{checked_first}
 use Rattle.runner.specs.Runs.{as_given, Ready, cells_of, Placing, Worked}
-use Rattle.runner.proofs.Program.{form, keeps, inside, last_one}
+use Rattle.runner.proofs.Program.{keeps, inside, last_one}
 
 -- ---- the image's parts
 
 module _ (image : List ℕ) (passed : (verdict image).number ≡ 0) where
   pub last-called : Called (header_of image) (parts_of image)
-  last-called = let q = called (formed image passed) in record { some = q.some; few = q.few; inside = q.inside }
+  unfolding verdict
+  last-called =
+      let k = sound slow image passed in
+      let q = k.procedure ((header_of image).procedures - 1) (omega (arith, k.some)) in
+      record { some = k.some; few = q.few; inside = omega (arith, q.end, q.parameters, k.narrow) }
 
   module _ (works : ℕ) (lengths store : List ℕ) where
     -- "then 19 to 22 in order": they are the run's.
@@ -59,13 +63,12 @@ module _ {h : Header} {s : Parts} {works : ℕ} {lengths store : List ℕ} (R : 
   pub placing : Placing h s lengths (length store) 1024
   placing =
       let last = (keeps R).procedure (h.procedures - 1) (last_one R) in
-      let L = laid (form R) in
       let f = (inside R).fitting in
       record {
         some = (keeps R).some;
-        rows_all = omega arith;
+        rows_all = (keeps R).narrow;
         cells = (inside R).room;
-        rows_store = omega (arith, last.end, last.parameters, f.counted);
-        names = omega (arith, last.end, last.parameters, f.counted);
+        rows_store = omega (arith, last.end, last.parameters, f.counted, (keeps R).narrow);
+        names = omega (arith, last.end, last.parameters, f.counted, (keeps R).narrow);
         whole = omega (arith, f.whole, (inside R).room);
       }

@@ -10,15 +10,14 @@ use native.Mathlib.Decide.{ℕ_discrete}
 use lib.ListN.{length}
 use lib.Dec.{T, T_not, lit<}
 use Rattle.rules.specs.Image.{Header, header_of, Parts, parts_of, procedure_of, node_of, is_statement}
-use Rattle.rules.specs.Form.{record_fits, node_refusal}
+use Rattle.rules.specs.Form.{format_refusal, layout_refusal, record_fits, node_refusal}
 use Rattle.rules.specs.Tree.{bodies, member, depths, chained, stands_in_tree, reference_refusal, place_refusal, tree_refusal, body_of}
-use Rattle.rules.specs.Check.{slow, verdict}
+use Rattle.rules.specs.Check.{slow, verdict_for, verdict}
 use Rattle.rules.specs.Machine.{Env}
 use Rattle.rules.specs.Run.{home, store_slots, env_of, last_of}
-use Rattle.laws.specs.Verdicts.{and_iff, or_cases, is_true, then_both, lowest-passed, member-here, member-there}
-use Rattle.laws.specs.Records.{Sound, sound, ranges_ordered}
+use Rattle.laws.specs.Verdicts.{and_iff, or_cases, is_true, then_both, then_first, then_rest, lowest-passed, member-here, member-there}
+use Rattle.laws.specs.Records.{laid, part_long, Sound, sound, ranges_ordered}
 use Rattle.laws.specs.Cells.{room_grows}
-use Rattle.entry.proofs.Accepted.{Formed, formed, laid, part_length}
 use Rattle.entry.proofs.Outcomes.{Entered, entered}
 use Rattle.entry.proofs.Names.{rows_home, rows_starting, starting-good}
 use Rattle.expressions.specs.Relations.{Good}
@@ -29,9 +28,10 @@ use Rattle.runner.proofs.Keeps.{within_body}
 
 -- The nodes' part is as long as its records.
 image_nodes : (image : List ℕ) → (verdict image).number ≡ 0 → (header_of image).nodes * 12 ≡ length (parts_of image).nodes
+unfolding verdict verdict_for layout_refusal
 image_nodes image e =
-    let L = laid (formed image e) in
-    let p = part_length image (header_of image).node_part (header_of image).constant_part (omega arith) (omega arith) in
+    let L = laid (header_of image) (length image) (then_first (layout_refusal image) _ (then_rest (format_refusal image) _ e)) in
+    let p = part_long image (header_of image).node_part (header_of image).constant_part (omega arith) in
     omega arith
 
 -- A procedure's body is one of the bodies.
@@ -42,9 +42,6 @@ body_member s p (suc count) q l m = dite (ℕ_discrete q p) (λ e. rw e (member-
     (λ ne. member-there (procedure_of s q).body (procedure_of s p).body (bodies s (suc p) count) (body_member s (suc p) count q (omega arith) (omega arith)))
 
 module _ {h : Header} {s : Parts} {works : ℕ} {lengths store : List ℕ} (R : Ready h s works lengths store) where
-  pub form : Formed h s (length R.image)
-  form = rw (← R.header_is, ← R.parts_are) (formed R.image R.passed)
-
   pub keeps : Sound slow h s
   unfolding verdict
   keeps = rw (← R.header_is, ← R.parts_are) (sound slow R.image R.passed)
@@ -60,7 +57,7 @@ module _ {h : Header} {s : Parts} {works : ℕ} {lengths store : List ℕ} (R : 
   record_fits_lem m l = is_true _ (lowest-passed 5 (λ n. record_fits h s.nodes n (node_of s.nodes n)) 0 h.nodes (lit< tt) keeps.nodes m (omega arith) (omega arith))
 
   unfoldable code : Code s.nodes
-  code = record { header = h; long = nodes_long; few = keeps.few; narrow = (laid form).variables; fit = record_fits_lem }
+  code = record { header = h; long = nodes_long; few = keeps.few; narrow = keeps.narrow; fit = record_fits_lem }
 
   -- "a body that is no statement" is refused.
   body_class : (p : ℕ) → p < h.procedures → T (is_statement (node_of s.nodes (procedure_of s.procedures p).body).kind)
@@ -111,10 +108,10 @@ module _ {h : Header} {s : Parts} {works : ℕ} {lengths store : List ℕ} (R : 
       record {
         mine = last_one;
         agree = record {
-          rows = λ y l u. rows_starting form inside slots _ slots' long refl e y l u;
-          good = λ y l u. let g = starting-good form inside slots _ slots' long refl e y l u in record { some = g.0; most = g.1; placed = g.2 };
-          room = omega (arith, last.end, (laid form).variables);
+          rows = λ y l u. rows_starting keeps inside slots _ slots' long refl e y l u;
+          good = λ y l u. let g = starting-good keeps inside slots _ slots' long refl e y l u in record { some = g.0; most = g.1; placed = g.2 };
+          room = omega (arith, last.end, keeps.narrow);
         };
-        home = λ q y lq l u. rows_home form inside slots _ slots' long refl e y (omega (arith, (keeps.procedure q (omega (arith, last_one))).end))
+        home = λ q y lq l u. rows_home keeps inside slots _ slots' long refl e y (omega (arith, (keeps.procedure q (omega (arith, last_one))).end))
             (inl (omega (arith, ranges_ordered h s keeps.procedure q (h.procedures - 1) lq last_one)));
       }

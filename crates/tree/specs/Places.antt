@@ -1,17 +1,20 @@
 -- Where the nodes stand: what their places begin with, how they are handed down, and that no depth outgrows the nodes passed.
-use Rattle.std.specs.Prelude.{◌≡◌, refl, List, [], ◌∷◌, Bool, true, false, not, cond, ◌&&◌, ◌||◌, ℕ, zero, suc, ◌+◌, ◌≤◌, ◌<◌, eqb, leb, ltb, length, get_or, map, take, set, replicate, Option, unwrap_or, is_some}
-use Rattle.std.proofs.Common.{sym, ap, ◌∙◌, ⊎_elim, arith, eqb-true, ltb-true, ltb-false, length-set, get_or-set_same, get_or-set_other}
+use Rattle.std.specs.Prelude.{◌≡◌, refl, List, [], ◌∷◌, Bool, true, false, not, cond, ◌&&◌, ◌||◌, ℕ, zero, suc, ◌+◌, ◌≤◌, ◌<◌, eqb, leb, length, get_or, map, take, set, replicate, Option, unwrap_or, is_some}
+use Rattle.std.proofs.Common.{lit≤, sym, ap, ◌∙◌, ⊎_elim, arith, eqb-true, length-set, get_or-set_same, get_or-set_other}
 use Rattle.std.proofs.Math.Bool.{or-true, or-false}
 use Rattle.std.proofs.Math.ListN.{get_or-map}
-use Rattle.std.proofs.lemmas.Bool.{eqb-false}
-use Rattle.std.proofs.lemmas.List.{length-replicate, map-set, take-replicate}
-use Rattle.std.proofs.Math.Seq.{set_out, map-set_same}
+use Rattle.std.specs.List.{All}
+use Rattle.std.proofs.lemmas.Bool.{eqb-false, cases_Bool, cases_lt, cond_both}
+use Rattle.std.proofs.lemmas.List.Elements.{All-get_or, All-set, All-weaker, All-replicate}
+use lib.LanesLaws.{map-replicate}
+use Rattle.std.proofs.lemmas.List.{get_or_past, length-replicate, map-set, take-replicate}
+use Rattle.std.proofs.Math.Seq.{map-set_same}
 use Rattle.rules.specs.Image.{missing, Header, Parts, is_statement, Node, node_of, procedure_of}
 use Rattle.rules.specs.Form.{first_argument, first_statement, class_of, given}
 use Rattle.rules.specs.Tree.{bodies, member, marked, handed, handed_on, handed_down, deeper, begins, is_reference, depths, chained, stands_in_tree, place_refusal}
 use Rattle.tree.specs.declared.Place.{Place}
 use Rattle.tree.specs.Turns.{Steps}
-use Rattle.tree.specs.Search.{tested, found, lowest-is, found-same}
+use Rattle.tree.specs.Search.{found, lowest-is, found-same}
 
 -- The place of a node that nothing has placed.
 abbrev pub nowhere : Place
@@ -117,15 +120,15 @@ module _ (own : Place) (class v : ℕ) (places : List Place) where
   unfolding child_placed handed deeper
   depths-child =
       ⊎_elim (λ t. rw t (depths-placed places v (own.depth + 1) (begins_chain class) ∙ (let e : own.depth + 1 ≡ suc own.depth = omega arith in rw e)))
-      (λ f. rw f) (tested (is_reference class))
+      (λ f. rw f) (cases_Bool (is_reference class))
 
   chains-child : chains_of (child_placed own class v places) ≡ handed begins (cond own.chained 1 0) class v (chains_of places)
   unfolding child_placed handed begins
-  chains-child = ⊎_elim (λ t. rw t (chains-placed places v (own.depth + 1) (begins_chain class))) (λ f. rw f) (tested (is_reference class))
+  chains-child = ⊎_elim (λ t. rw t (chains-placed places v (own.depth + 1) (begins_chain class))) (λ f. rw f) (cases_Bool (is_reference class))
 
   bodies-child : bodies_of (child_placed own class v places) ≡ bodies_of places
   unfolding child_placed
-  bodies-child = ⊎_elim (λ t. rw t (bodies-placed places v (own.depth + 1) (begins_chain class))) (λ f. rw f) (tested (is_reference class))
+  bodies-child = ⊎_elim (λ t. rw t (bodies-placed places v (own.depth + 1) (begins_chain class))) (λ f. rw f) (cases_Bool (is_reference class))
 
 module _ (own : Place) (r : Node) (places : List Place) where
   abbrev p₁ : List Place
@@ -191,51 +194,38 @@ marked-member (m ∷ ms) marks n l =
     let here : m ≡ n = sym (eqb-true n m t) in
     let same : get_or (set marks m 1) n 0 ≡ 1 = rw here (get_or-set_same marks n 1 0 l) in
     rw (same, t) (sym (or-true (eqb (get_or marks n 0) 1))))
-    (λ f. rw (get_or-set_other marks m n 1 0 (eqb-false n m f), f)) (tested (eqb n m))
+    (λ f. rw (get_or-set_other marks m n 1 0 (eqb-false n m f), f)) (cases_Bool (eqb n m))
 
--- No mark is over a bound.
-abbrev pub AtMost : List ℕ → ℕ → Type 0
-AtMost marks k = (i : ℕ) → get_or marks i 0 ≤ k
+-- A place that is at most so deep.
+abbrev pub AtMost : ℕ → Place → Type 0
+AtMost k p = p.depth ≤ k
 
-set_at_most : (marks : List ℕ) (n v k : ℕ) → AtMost marks k → v ≤ k → AtMost (set marks n v) k
-set_at_most marks n v k h l i =
-    ⊎_elim
-    (λ t. let e : n ≡ i = sym (eqb-true i n t) in
-    ⊎_elim (λ inside. rw (e, get_or-set_same marks i v 0 (ltb-true i (length marks) inside)) l)
-    (λ outside. rw (e, set_out marks i v (ltb-false i (length marks) outside)) (h i)) (tested (ltb i (length marks))))
-    (λ f. rw (get_or-set_other marks n i v 0 (eqb-false i n f)) (h i)) (tested (eqb i n))
+pub depth-within : (n k : ℕ) (places : List Place) → All (AtMost k) places → (get_or places n nowhere).depth ≤ k
+depth-within n k places h =
+    ⊎_elim (λ inside. All-get_or (AtMost k) places n nowhere inside h) (λ past. rw (get_or_past places n nowhere past) (omega arith)) (cases_lt n (length places))
 
-handed-at-most : (child : ℕ → ℕ → ℕ) (own class v : ℕ) (marks : List ℕ) (k : ℕ) → child class own ≤ k → AtMost marks k → AtMost (handed child own class v marks) k
-unfolding handed
-handed-at-most child own class v marks k l h =
-    ⊎_elim (λ t. rw t (set_at_most marks v (child class own) k h l)) (λ f. rw f h) (tested (is_reference class))
+placed-at-most : (places : List Place) (n depth : ℕ) (chained : Bool) (k : ℕ) → depth ≤ k → All (AtMost k) places → All (AtMost k) (placed places n depth chained)
+unfolding placed
+placed-at-most places n depth chained k l h = All-set (AtMost k) places n _ l h
 
--- Handing on raises the bound by one.
-pub handed_on-at-most : (child : ℕ → ℕ → ℕ) (r : Node) (own : ℕ) (marks : List ℕ) (k : ℕ) → own ≤ k → ((class : ℕ) → child class own ≤ k) → AtMost marks k
-    → AtMost (handed_on child r own marks) k
-unfolding handed_on
-handed_on-at-most child r own marks k o l h =
-    let marks₁ = handed child own (class_of r.kind 1) r.a marks in
-    let marks₂ = handed child own (class_of r.kind 2) r.b marks₁ in
-    let marks₃ = handed child own (class_of r.kind 3) r.c marks₂ in
-    let marks₄ = handed child own (class_of r.kind 4) r.d marks₃ in
-    set_at_most marks₄ r.next own k
-    (handed-at-most child own (class_of r.kind 4) r.d marks₃ k (l (class_of r.kind 4))
-    (handed-at-most child own (class_of r.kind 3) r.c marks₂ k (l (class_of r.kind 3))
-    (handed-at-most child own (class_of r.kind 2) r.b marks₁ k (l (class_of r.kind 2))
-    (handed-at-most child own (class_of r.kind 1) r.a marks k (l (class_of r.kind 1)) h)))) o
+child-at-most : (own : Place) (class v : ℕ) (places : List Place) (k : ℕ) → own.depth + 1 ≤ k → All (AtMost k) places → All (AtMost k) (child_placed own class v places)
+unfolding child_placed
+child-at-most own class v places k l h =
+    cond_both (is_reference class) _ places (λ x. All (AtMost k) x) (λ t. placed-at-most places v (own.depth + 1) (begins_chain class) k l h) (λ f. h)
 
 -- One turn more, and the bound that it leaves.
-pub at-most-next : (r : Node) (n : ℕ) (places : List Place) → AtMost (depths_of places) (n + 1) → AtMost (depths_of (children_placed (get_or places n nowhere) r places)) (n + 1 + 1)
-unfolding deeper
+pub at-most-next : (r : Node) (n : ℕ) (places : List Place) → All (AtMost (n + 1)) places → All (AtMost (n + 1 + 1)) (children_placed (get_or places n nowhere) r places)
+unfolding children_placed
 at-most-next r n places h =
-    let own : (get_or places n nowhere).depth ≤ n + 1 = rw (depth-at places n) at (h n) in
-    rw (depths-children (get_or places n nowhere) r places)
-    (handed_on-at-most deeper r (get_or places n nowhere).depth (depths_of places) (n + 1 + 1) (omega arith)
-    (λ class. omega arith) (λ i. let x : get_or (depths_of places) i 0 ≤ n + 1 = h i in omega arith))
-
-pub depth-within : (n k : ℕ) (places : List Place) → AtMost (depths_of places) k → (get_or places n nowhere).depth ≤ k
-depth-within n k places h = rw (depth-at places n) at (h n)
+    let own = get_or places n nowhere in
+    let shallow : own.depth ≤ n + 1 + 1 = omega (arith, depth-within n (n + 1) places h) in
+    let deep : own.depth + 1 ≤ n + 1 + 1 = omega (arith, depth-within n (n + 1) places h) in
+    placed-at-most _ r.next own.depth own.chained _ shallow
+    (child-at-most own (class_of r.kind 4) r.d _ _ deep
+    (child-at-most own (class_of r.kind 3) r.c _ _ deep
+    (child-at-most own (class_of r.kind 2) r.b _ _ deep
+    (child-at-most own (class_of r.kind 1) r.a _ _ deep
+    (All-weaker (AtMost (n + 1)) (AtMost (n + 1 + 1)) (λ p q. omega arith) places h)))))
 
 -- ---- the loops, one turn at a time
 
@@ -270,30 +260,16 @@ zeros-at zero i = refl
 zeros-at (suc n) zero = refl
 zeros-at (suc n) (suc i) = zeros-at n i
 
-depths-nowhere : (n : ℕ) → depths_of (replicate n nowhere) ≡ replicate n 0
-depths-nowhere zero = refl
-depths-nowhere (suc n) = ap (λ (x : List ℕ). 0 ∷ x) (depths-nowhere n)
+all_bodies-at-most : (s : List ℕ) (p count : ℕ) (places : List Place) → All (AtMost 1) places → All (AtMost 1) (bodies_placed s p count places)
+unfolding bodies_placed body_placed
+all_bodies-at-most s p zero places h = h
+all_bodies-at-most s p (suc count) places h = all_bodies-at-most s (suc p) count _ (All-set (AtMost 1) places (procedure_of s p).body _ (lit≤ tt) h)
 
-chains-nowhere : (n : ℕ) → chains_of (replicate n nowhere) ≡ replicate n 0
-chains-nowhere zero = refl
-chains-nowhere (suc n) = ap (λ (x : List ℕ). 0 ∷ x) (chains-nowhere n)
+pub bodies-at-most : (n : ℕ) (s : List ℕ) (count : ℕ) (start places : List Place) → start ≡ replicate n nowhere → places ≡ bodies_placed s 0 count start → All (AtMost 1) places
+bodies-at-most n s count start places z e = rw (e, z) (all_bodies-at-most s 0 count (replicate n nowhere) (All-replicate (AtMost 1) n nowhere (omega arith)))
 
-bodies-nowhere : (n : ℕ) → bodies_of (replicate n nowhere) ≡ replicate n 0
-bodies-nowhere zero = refl
-bodies-nowhere (suc n) = ap (λ (x : List ℕ). 0 ∷ x) (bodies-nowhere n)
-
-marked-at-most : (ms marks : List ℕ) → AtMost marks 1 → AtMost (marked 1 ms marks) 1
-unfolding marked
-marked-at-most [] marks h = h
-marked-at-most (m ∷ ms) marks h = marked-at-most ms (set marks m 1) (set_at_most marks m 1 1 h (omega arith))
-
-pub bodies-at-most : (n : ℕ) (s : List ℕ) (count : ℕ) (start places : List Place) → start ≡ replicate n nowhere → places ≡ bodies_placed s 0 count start → AtMost (depths_of places) 1
-bodies-at-most n s count start places z e =
-    rw (e, depths-bodies s 0 count start, z, depths-nowhere n)
-    (marked-at-most (bodies s 0 count) (replicate n 0) (λ i. rw (zeros-at n i) (omega arith)))
-
-pub nowhere-cut : (k n room : ℕ) → k ≡ n → n ≤ room → take {A = Place} k (replicate room nowhere) ≡ replicate n nowhere
-nowhere-cut k n room e l = rw e (take-replicate n room nowhere l)
+pub nowhere-cut : (k n room : ℕ) (p : Place) → k ≡ n → n ≤ room → p ≡ nowhere → take {A = Place} k (replicate room p) ≡ replicate n nowhere
+nowhere-cut k n room p e l is = rw (e, is) (take-replicate n room nowhere l)
 
 one_if : (b : Bool) → eqb (cond b 1 0) 1 ≡ b
 one_if true = refl
@@ -308,11 +284,11 @@ unfolding place_refusal stands_in_tree depths chained
 places_refused h s start middle places z m e place is =
     let in_tree = stands_in_tree (bodies s.procedures 0 h.procedures) (depths h s) (chained h s) in
     let deep : depths_of places ≡ depths h s =
-    rw e (depths-all s.nodes 0 h.nodes middle ∙ rw (m, depths-bodies s.procedures 0 h.procedures start, z, depths-nowhere h.nodes)) in
+    rw e (depths-all s.nodes 0 h.nodes middle ∙ rw (m, depths-bodies s.procedures 0 h.procedures start, z, map-replicate {B = ℕ})) in
     let chain : chains_of places ≡ chained h s =
-    rw e (chains-all s.nodes 0 h.nodes middle ∙ rw (m, chains-bodies s.procedures 0 h.procedures start, z, chains-nowhere h.nodes)) in
+    rw e (chains-all s.nodes 0 h.nodes middle ∙ rw (m, chains-bodies s.procedures 0 h.procedures start, z, map-replicate {B = ℕ})) in
     let body : bodies_of places ≡ marked 1 (bodies s.procedures 0 h.procedures) (replicate h.nodes 0) =
-    rw e (bodies-all s.nodes 0 h.nodes middle ∙ rw (m, bodies-bodies s.procedures 0 h.procedures start, z, bodies-nowhere h.nodes)) in
+    rw e (bodies-all s.nodes 0 h.nodes middle ∙ rw (m, bodies-bodies s.procedures 0 h.procedures start, z, map-replicate {B = ℕ})) in
     lowest-is 6 (λ n. in_tree n (node_of s.nodes n)) h.nodes place
     (is ∙ found-same (stands_at s.nodes places) (λ n. in_tree n (node_of s.nodes n)) 0 h.nodes
     (λ k low high.

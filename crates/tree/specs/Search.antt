@@ -1,18 +1,12 @@
 -- A search for the lowest place: what it finds, what it says where it passes all, and that equal tests search alike.
-use Rattle.std.specs.Prelude.{◌≡◌, refl, Bool, true, false, cond, ◌⊎◌, eqb, Option, Some, None, unwrap_or, is_some, MatchOption}
+use Rattle.std.specs.Prelude.{◌≡◌, refl, Bool, true, false, cond, eqb, Option, Some, None, unwrap_or, is_some, MatchOption}
 use Rattle.std.proofs.Math.Path.{sym}
-use Rattle.std.proofs.Common.{zero-add, ap, ◌∙◌, inl, inr, ⊎_elim}
+use Rattle.std.proofs.Common.{zero-add, ap, ◌∙◌, ⊎_elim}
 use Prim.Native.Nat.{ℕ, zero, suc, ◌+◌, ◌≤◌, ◌<◌}
 use native.Mathlib.Omega.{arith}
-use borrow.Author.Tests.{ne_eqb, eq-eqb, eqb-true, eqb-false}
+use borrow.Author.Tests.{ne_eqb, eq-eqb, eqb-true}
+use Rattle.std.proofs.lemmas.Bool.{cases_Bool, cases_eq, cond_both}
 use Rattle.rules.specs.Form.{Verdict, accepted, ◌then◌, given, search, lowest}
-
-pub tested : (b : Bool) → (b ≡ true) ⊎ (b ≡ false)
-tested true = inl refl
-tested false = inr refl
-
-first_or_later : (i k : ℕ) → i ≤ k → (k ≡ i) ⊎ (suc i ≤ k)
-first_or_later i k low = ⊎_elim (λ t. inl (eqb-true k i t)) (λ f. inr (omega (arith, eqb-false k i f))) (tested (eqb k i))
 
 -- What a search finds: the lowest place that fails the test, or nothing where it ends behind them all.
 unfoldable pub found : (ℕ → Bool) → ℕ → ℕ → Option ℕ
@@ -23,8 +17,7 @@ abbrev pub Passed : (ℕ → Bool) → ℕ → ℕ → Type 0
 Passed passes i n = (k : ℕ) → i ≤ k → k < n → passes k ≡ true
 
 pub passed-next : (passes : ℕ → Bool) (i n : ℕ) → Passed passes i n → passes n ≡ true → Passed passes i (n + 1)
-passed-next passes i n p e k low high =
-    ⊎_elim (λ t. rw (eqb-true k n t) e) (λ f. p k low (omega (arith, eqb-false k n f))) (tested (eqb k n))
+passed-next passes i n p e k low high = ⊎_elim (λ t. rw t e) (λ f. p k low (omega arith)) (cases_eq k n)
 
 -- A search stops at the lowest place that fails, or behind the last.
 stops : (passes : ℕ → Bool) (i count n : ℕ) → i ≤ n → n < i + count → Passed passes i n → passes n ≡ false → search passes i count ≡ n
@@ -32,10 +25,10 @@ unfolding search
 stops passes i zero n low high p e = absurd (omega arith)
 stops passes i (suc count) n low high p e =
     ⊎_elim (λ (t : n ≡ i). let here : passes i ≡ false = rw t at e in rw here (sym t))
-    (λ (t : suc i ≤ n).
+    (λ past.
     let passed : passes i ≡ true = p i (omega arith) (omega arith) in
-    let later : search passes (suc i) count ≡ n = stops passes (suc i) count n t (omega arith) (λ k l m. p k (omega arith) m) e in
-    rw (passed, later)) (first_or_later i n low)
+    let later : search passes (suc i) count ≡ n = stops passes (suc i) count n (omega arith) (omega arith) (λ k l m. p k (omega arith) m) e in
+    rw (passed, later)) (cases_eq n i)
 
 ends : (passes : ℕ → Bool) (i count : ℕ) → Passed passes i (i + count) → search passes i count ≡ i + count
 unfolding search
@@ -67,35 +60,17 @@ module _ (passes : ℕ → Bool) (i count end : ℕ) (last : i + count ≡ end) 
 -- The place that a search ends at, where nothing is the end.
 pub end-of : (passes : ℕ → Bool) (count : ℕ) (place : Option ℕ) → place ≡ found passes 0 count → unwrap_or place count ≡ search passes 0 count
 unfolding found
-end-of passes count place e = rw e
-    (⊎_elim (λ t. rw t (sym (eqb-true (search passes 0 count) (0 + count) t ∙ zero-add count))) (λ f. rw f) (tested (eqb (search passes 0 count) (0 + count))))
+end-of passes count place e =
+    rw e (cond_both _ None (Some (search passes 0 count)) (λ o. unwrap_or o count ≡ search passes 0 count)
+    (λ t. sym (eqb-true (search passes 0 count) (0 + count) t ∙ zero-add count)) (λ f. refl))
 
 -- The verdict of a search that found this.
 pub lowest-from : (number : ℕ) (passes : ℕ → Bool) (i n : ℕ) (place : Option ℕ) → place ≡ found passes i n → given number (unwrap_or place 0) (is_some place) ≡ lowest number passes i n
 unfolding lowest given found
-lowest-from number passes i n place e = rw e
-    (⊎_elim (λ t. rw t) (λ f. rw f) (tested (eqb (search passes i n) (i + n))))
+lowest-from number passes i n place e = rw e (⊎_elim (λ t. rw t) (λ f. rw f) (cases_Bool (eqb (search passes i n) (i + n))))
 
 pub lowest-is : (number : ℕ) (passes : ℕ → Bool) (n : ℕ) (place : Option ℕ) → place ≡ found passes 0 n → given number (unwrap_or place 0) (is_some place) ≡ lowest number passes 0 n
 lowest-is number passes n place e = lowest-from number passes 0 n place e
-
--- Every place that a search passed passes the test.
-search-passed : (passes : ℕ → Bool) (i count : ℕ) → search passes i count ≡ i + count → (k : ℕ) → i ≤ k → k < i + count → passes k ≡ true
-unfolding search
-search-passed passes i zero e k low high = absurd (omega arith)
-search-passed passes i (suc count) e k low high =
-    ⊎_elim
-    (λ t.
-    let later : search passes (suc i) count ≡ i + suc count = rw t at e in
-    ⊎_elim (λ (here : k ≡ i). rw here t) (λ past. search-passed passes (suc i) count (later ∙ (omega arith)) k past (omega arith)) (first_or_later i k low))
-    (λ f. let stopped : i ≡ i + suc count = rw f at e in absurd (omega arith)) (tested (passes i))
-
-pub lowest-accepts : (number : ℕ) → (number ≡ 0 → ⊥) → (passes : ℕ → Bool) (count : ℕ) → (lowest number passes 0 count).number ≡ 0 → (k : ℕ) → k < count → passes k ≡ true
-unfolding lowest given
-lowest-accepts number z passes count e k l =
-    ⊎_elim
-    (λ t. search-passed passes 0 count (eqb-true (search passes 0 count) (0 + count) t) k (omega arith) (omega arith))
-    (λ f. absurd (z (rw f at e))) (tested (eqb (search passes 0 count) (0 + count)))
 
 -- Tests that agree at each place search alike.
 search-same : (p q : ℕ → Bool) (i count : ℕ) → ((k : ℕ) → i ≤ k → k < i + count → p k ≡ q k) → search p i count ≡ search q i count

@@ -2,6 +2,7 @@
 #![tactic(auto)]
 
 ghost use Rattle.std.specs.Prelude.{ℕ, ◌≡◌, unwrap_or, is_some, ◌≤◌, ◌<◌, eqb, get_or, replicate};
+ghost use Rattle.std.specs.List.{All};
 ghost use Rattle.rules.specs.Form.{given};
 ghost use Rattle.rules.specs.Tree.{is_reference, reference, references_of, node_references, bodies, reference_refusal, place_refusal, tree_refusal};
 ghost use Rattle.records.specs.Records.{as_header, as_node};
@@ -10,7 +11,7 @@ ghost use Rattle.records.specs.Fields.{class_number};
 ghost use Rattle.records.specs.Refusals.{number_of, as_verdict};
 ghost use Rattle.tree.specs.Search.{found};
 ghost use Rattle.tree.specs.Tally.{bumped, tally};
-ghost use Rattle.tree.specs.Places.{nowhere, depths_of, placed, body_placed, bodies_placed, child_placed, children_placed, all_placed, AtMost, stands_by, stands_at};
+ghost use Rattle.tree.specs.Places.{nowhere, placed, body_placed, bodies_placed, child_placed, children_placed, all_placed, AtMost, stands_by, stands_at};
 
 use records::{Class, Header, Parts, RawNode, Rule, Verdict};
 
@@ -45,9 +46,8 @@ fn bump(counts: &mut [u8], n: u16)
     ensures { counts.new ≡ bumped counts.old n }
 {
     let k = usize::from(n);
-    if k < counts.len() {
-        counts[k] = counts[k].saturating_add(1).min(2);
-    }
+    let count = records::get_or(counts, k, 0);
+    records::put(counts, k, count.saturating_add(1).min(2));
 }
 
 // Counts what a field of this class refers to.
@@ -95,7 +95,7 @@ fn count_bodies(procedures: &[u8], count: u16, counts: &mut [u8])
 fn first_not_once(counts: &[u8], count: u16) -> Option<u16>
     ensures { result ≡ found (λ n. eqb (get_or counts.now n 0) 1) 0 count }
 {
-    (0..count).find(|&n| records::u8_at(counts, usize::from(n)) != 1)
+    (0..count).find(|&n| records::get_or(counts, usize::from(n), 0) != 1)
 }
 
 // "first, a node not referred to exactly once (procedure bodies count as references)"
@@ -110,25 +110,19 @@ fn references(h: Header, parts: &Parts) -> Verdict
 }
 
 // What is found of a node: whether it is a body, its depth, and whether it is a block's statement or an argument.
-#[derive(Clone, Copy)]
+// Of a node that nothing has placed, nothing is found.
+#[derive(Clone, Copy, Default)]
 struct Place {
     body: bool,
     depth: u16,
     chained: bool,
 }
 
-// The place of a node that nothing has placed.
-const NOWHERE: Place = Place {
-    body: false,
-    depth: 0,
-    chained: false,
-};
-
 // The place of node n.
 fn place_at(places: &[Place], n: u16) -> Place
     ensures { result ≡ get_or places.now n nowhere }
 {
-    places.get(usize::from(n)).copied().unwrap_or(NOWHERE)
+    records::get_or(places, usize::from(n), Place::default())
 }
 
 // Makes node n a body; a number past the end changes nothing.
@@ -136,14 +130,12 @@ fn place_at(places: &[Place], n: u16) -> Place
 fn place_body(places: &mut [Place], n: u16)
     ensures { places.new ≡ body_placed places.old n }
 {
-    let k = usize::from(n);
-    if k < places.len() {
-        places[k] = Place {
-            body: true,
-            depth: 1,
-            chained: places[k].chained,
-        };
-    }
+    let place = Place {
+        body: true,
+        depth: 1,
+        ..place_at(places, n)
+    };
+    records::put(places, usize::from(n), place);
 }
 
 // Places node n as its parent says; a number past the end changes nothing.
@@ -151,14 +143,12 @@ fn place_body(places: &mut [Place], n: u16)
 fn place_node(places: &mut [Place], n: u16, depth: u16, chained: bool)
     ensures { places.new ≡ placed places.old n depth chained }
 {
-    let k = usize::from(n);
-    if k < places.len() {
-        places[k] = Place {
-            body: places[k].body,
-            depth,
-            chained,
-        };
-    }
+    let place = Place {
+        depth,
+        chained,
+        ..place_at(places, n)
+    };
+    records::put(places, usize::from(n), place);
 }
 
 // Places the bodies of the first count procedures.
@@ -199,7 +189,7 @@ fn place_children(r: RawNode, own: Place, places: &mut [Place])
 
 // Places what the first count nodes refer to, in the order of the nodes.
 fn place_all(nodes: &[u8], count: u16, places: &mut [Place])
-    requires { (count ≤ 4096) × AtMost (depths_of places.old) 1 }
+    requires { (count ≤ 4096) × All (AtMost 1) places.old }
     ensures { places.new ≡ all_placed nodes.now 0 count places.old }
 {
     for n in 0..count {
@@ -239,7 +229,7 @@ fn places(h: Header, parts: &Parts) -> Verdict
     requires { h.nodes ≤ 4096 }
     ensures { as_verdict result ≡ place_refusal (as_header h) (as_parts parts.now) }
 {
-    let mut places = [NOWHERE; 4096];
+    let mut places = [Place::default(); 4096];
     places_by(h, parts, &mut places[..usize::from(h.nodes)])
 }
 

@@ -1,10 +1,10 @@
 -- What the walk's functions promise: a verdict that is the definition's, for every list of names that the marks stand for.
 use Rattle.std.specs.Prelude.{ℕ, zero, suc, ◌-◌, ◌<◌, ◌≡◌, refl, List, Bool, true, false, not, cond, ◌&&◌, ◌||◌, eqb, get_or, Some, None, Result, Ok, Err, ⊤}
-use Rattle.std.proofs.Common.{sym, ap, ◌∙◌, arith}
+use Rattle.std.proofs.Common.{sym, ap, ◌∙◌, ⊎_elim, arith}
 use Rattle.std.specs.Bool.{beq}
 use Rattle.std.specs.Result.{IsErrAnd}
 use Rattle.std.proofs.lemmas.Result.{err_from_is_err_and}
-use borrow.Author.Tests.{ne_eqb, eqb-true, eqb-false}
+use Rattle.std.proofs.lemmas.Bool.{ne_eqb, eqb-true, cases_eq, cond_both}
 use Rattle.rules.specs.Words.{binaries, binary_of, plus, divides}
 use Rattle.rules.specs.Image.{Header, Parts, variable_of, is_array, is_constant, is_secret}
 use Rattle.rules.specs.Form as form
@@ -13,7 +13,6 @@ use Rattle.rules.specs.Tree as tree
 use Rattle.rules.specs.Tree.{root, reading_at}
 use Rattle.rules.specs.Walk.{type_of, same_type, same, passes_array, secret, named, element_refusal, expr_refusal, target_refusal, argument_refusal}
 use Rattle.rules.specs.Check.{slow}
-use Rattle.records.specs.Truth.{chosen}
 use Rattle.records.specs.Refusals.{number_of, as_verdict, then-stops}
 use Rattle.records.specs.LValues.{node_of_lvalue, root_of, index_of}
 use Rattle.records.specs.Cases.{place_of, value_of}
@@ -101,10 +100,6 @@ row x y z e = e ∙ chosen_on (eqb x.number 0) x y z refl
 
 -- ---- 13: the operators that divide
 
-by_test : {A : Type 0} (b : Bool) → (b ≡ true → A) → (b ≡ false → A) → A
-by_test true p q = p refl
-by_test false p q = q refl
-
 divides-only : (i : ℕ) → (i ≡ 3 → ⊥) → (i ≡ 4 → ⊥) → divides (get_or binaries i plus) ≡ false
 unfolding divides
 divides-only zero a b = refl
@@ -129,15 +124,15 @@ pub slow-operator : (o : ℕ) → (eqb o 4 || eqb o 5) ≡ slow (binary_of o)
 unfolding slow divides
 slow-operator zero = refl
 slow-operator (suc i) =
-    by_test (eqb i 3)
-    (λ e. let k : i ≡ 3 = eqb-true i 3 e in rw k)
-    (λ e. by_test (eqb i 4)
-    (λ f. let k : i ≡ 4 = eqb-true i 4 f in rw k)
-    (λ f.
+    ⊎_elim
+    (λ (e : i ≡ 3). rw e)
+    (λ (e : i ≡ 3 → ⊥). ⊎_elim
+    (λ (f : i ≡ 4). rw f)
+    (λ (f : i ≡ 4 → ⊥).
     let j : suc i - 1 ≡ i = omega arith in
-    let a : eqb (suc i) 4 ≡ false = ne_eqb (suc i) 4 (λ z. eqb-false i 3 e (omega (arith, z))) in
-    let b : eqb (suc i) 5 ≡ false = ne_eqb (suc i) 5 (λ z. eqb-false i 4 f (omega (arith, z))) in
-    rw (a, b, j) (sym (divides-only i (eqb-false i 3 e) (eqb-false i 4 f)))))
+    let a : eqb (suc i) 4 ≡ false = ne_eqb (suc i) 4 (λ z. e (omega (arith, z))) in
+    let b : eqb (suc i) 5 ≡ false = ne_eqb (suc i) 5 (λ z. f (omega (arith, z))) in
+    rw (a, b, j) (sym (divides-only i e f))) (cases_eq i 4)) (cases_eq i 3)
 
 -- ---- the leaves of an expression
 
@@ -166,14 +161,14 @@ module _ (s : Parts) (Γ : List ℕ) (n x k : ℕ) where
   pub variable_refusal : named Γ n x (is_array (type_of s x)) ≡ expr_refusal slow s Γ (cond (is_constant (type_of s x)) (tree.constant n x k) (tree.variable n x))
   unfolding expr_refusal
   variable_refusal =
-      chosen (λ t. named Γ n x (is_array (type_of s x)) ≡ expr_refusal slow s Γ t) (is_constant (type_of s x))
+      cond_both (is_constant (type_of s x)) _ _ (λ t. named Γ n x (is_array (type_of s x)) ≡ expr_refusal slow s Γ t)
       (λ z. let y : (type_of s x).kind ≡ 2 = eqb-true (type_of s x).kind 2 z in rw y)
       (λ z. refl)
 
   pub variable_secret : (not (is_constant (type_of s x)) && is_secret (type_of s x)) ≡ secret s (cond (is_constant (type_of s x)) (tree.constant n x k) (tree.variable n x))
   unfolding secret
   variable_secret =
-      chosen (λ t. (not (is_constant (type_of s x)) && is_secret (type_of s x)) ≡ secret s t) (is_constant (type_of s x))
+      cond_both (is_constant (type_of s x)) _ _ (λ t. (not (is_constant (type_of s x)) && is_secret (type_of s x)) ≡ secret s t)
       (λ z. rw z)
       (λ z. rw z)
 

@@ -2,6 +2,7 @@
 use Prim.Native.Nat.{ℕ, zero, suc, ◌+◌, ◌≤◌, ◌<◌}
 use Rattle.std.specs.Prelude.{◌≡◌, List, [], ◌∷◌, ◌++◌, Bool, true, false, not, ◌&&◌, ◌||◌, ◌⊎◌, leb, ltb, Result, Ok, Err, ⊤, MatchBool, length}
 use Rattle.std.proofs.Math.Path.{refl}
+use Rattle.std.proofs.Math.Bool.{and_assoc}
 use Rattle.std.proofs.Common.{sym, ap, subst, ⊎_elim, ◌∙◌}
 use native.Mathlib.Omega.{arith}
 use Rattle.std.specs.Result.{IsErrAnd}
@@ -34,10 +35,6 @@ use Rattle.names.specs.declared.marks.Names.{Names}
 use Rattle.walker.specs.declared.Walk.{Walk}
 use Rattle.walker.specs.Simple.{Callable, CallAt, call_at}
 use Rattle.walker.specs.Judge.{Scope, Judges, goes, row, refuses_with}
-
-and_assoc : (a b c : Bool) → ((a && b) && c) ≡ (a && (b && c))
-and_assoc true b c = refl
-and_assoc false b c = refl
 
 -- ---- own rules
 
@@ -172,11 +169,11 @@ lt-same : (a b : ℕ) → is_lt (nat_cmp a b) ≡ ltb a b
 lt-same a b = grind (arith, nat_tests)
 
 -- A name of the procedure's range behind its parameters, that is not declared yet.
-module _ (q : Procedure) (D : List ℕ) (x : ℕ) {first parameters first' count x' : ℕ} (a : first ≡ q.first) (b : parameters ≡ q.parameters) (c : first' ≡ q.first) (d : count ≡ q.count) (e : x' ≡ x)
-    {own : Bool} (f : own ≡ (is_le (nat_cmp (first + parameters) x') && is_lt (nat_cmp x' (first' + count)))) where
+module _ (q : Procedure) (D : List ℕ) (x : ℕ) {locals end x' : ℕ} (a : locals ≡ q.first + q.parameters) (b : end ≡ q.first + q.count) (c : x' ≡ x)
+    {own : Bool} (f : own ≡ (is_le (nat_cmp locals x') && is_lt (nat_cmp x' end))) where
   declarable_by : (own && not (member x D)) ≡ declarable (as_procedure q) D x
   unfolding declarable
-  declarable_by = rw (f, a, b, c, d, e, le-same (q.first + q.parameters) x, lt-same x (q.first + q.count)) (and_assoc (leb (q.first + q.parameters) x) (ltb x (q.first + q.count)) (not (member x D)))
+  declarable_by = rw (f, a, b, c, le-same (q.first + q.parameters) x, lt-same x (q.first + q.count)) (and_assoc (leb (q.first + q.parameters) x) (ltb x (q.first + q.count)) (not (member x D)))
 
   pub declarable_own : {fresh : Bool} → fresh ≡ not (member x D) → own ≡ true → fresh ≡ declarable (as_procedure q) D x
   declarable_own g t = g ∙ rw t at declarable_by

@@ -1,5 +1,6 @@
 -- The statements that hold no other: update, swap, conditional swap, call.
 use Rattle.std.specs.Prelude.{ℕ, ◌+◌, ◌-◌, ◌≤◌, ◌≡◌, List, [], ◌∷◌, ◌++◌, Bool, true, false, ◌&&◌, ◌||◌, ◌⊎◌, ltb, Result, Ok, ⊤}
+use Rattle.std.proofs.Math.Bool.{or-false}
 use Rattle.std.proofs.Common.{sym, ap, ◌∙◌, inl, inr, ⊎_elim, arith}
 use Rattle.rules.specs.Words as words
 use Rattle.rules.specs.Image as rules
@@ -12,17 +13,17 @@ use Rattle.records.specs.Refusals.{as_verdict}
 use Rattle.records.specs.Records.{as_procedure}
 use Rattle.records.specs.LValues.{root_of}
 use Rattle.records.specs.Decode.{decoded_at}
-use Rattle.records.specs.Cases.{place_of}
+use Rattle.records.specs.Cases.{place_of, root-place}
 use Rattle.records.specs.declared.refusal.Refusal.{Refusal}
 use Rattle.records.specs.declared.Procedure.{Procedure}
 use Rattle.records.specs.declared.LValue.{LValue}
 use Rattle.records.specs.declared.Node.{Node}
 use Rattle.records.specs.declared.Node.TheVariants.{Update, Swap, ConditionalSwap, Call, Uncall}
-use Rattle.names.specs.Marks.{or_false, share-append, share-comm}
+use Rattle.names.specs.Marks.{share-append, share-comm}
 use Rattle.names.specs.declared.marks.Names.{Names}
 use Rattle.names.specs.Sound.{Standing, Known, Chain, KnownChain, means, refers}
 use Rattle.names.specs.Statements.{begun, known_begun}
-use Rattle.names.specs.Chains.{Naming, root-place}
+use Rattle.names.specs.Chains.{Naming}
 use Rattle.walker.specs.declared.Walk.{Walk}
 use Rattle.walker.specs.Judge.{Scope}
 use Rattle.walker.specs.Ways.{fitting}
@@ -84,7 +85,7 @@ module _ (x y : ℕ) (ys : List ℕ) {a : Bool} (f : a ≡ member x ys) where
 
   pub share-second : a ≡ false → {b : Bool} → b ≡ member y ys → b ≡ share (x ∷ y ∷ []) ys
   unfolding share
-  share-second e k = k ∙ rw (← f, e, or_false (member y ys))
+  share-second e k = k ∙ rw (← f, e, or-false (member y ys))
 
 share-later : (a b c : List ℕ) → share a (b ++ c) ≡ (share a b || share a c)
 share-later a b c = share-comm a (b ++ c) ∙ share-append b c a ∙ rw (share-comm b a, share-comm c a)

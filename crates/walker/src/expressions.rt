@@ -36,7 +36,7 @@ fn is_unsafe(l: LValue) -> bool
 fn divides(operator: u8) -> bool
     ensures { result ≡ slow (binary_of operator) }
 {
-    operator == 4 || operator == 5
+    matches!(operator, 4 | 5)
 }
 
 // 13: "/ or % with a secret operand": whether what the operator gives is secret.

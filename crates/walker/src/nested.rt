@@ -17,9 +17,7 @@ use records::{Procedure, Rule, Verdict};
 fn can_declare(q: Procedure, taken: &Names, x: u16) -> bool
     ensures { (D : List ℕ) → Marks taken.now D → x < most → result ≡ declarable (as_procedure q) D x }
 {
-    let from = u32::from(q.first) + u32::from(q.parameters);
-    let end = u32::from(q.first) + u32::from(q.count);
-    (from..end).contains(&u32::from(x)) && !taken.contains(x)
+    (q.locals()..q.end()).contains(&u32::from(x)) && !taken.contains(x)
 }
 
 // 7 of the count names from x on.

@@ -1,21 +1,10 @@
--- Every name before x is taken.
-use Rattle.std.proofs.Common.{arith, sym, ◌∙◌}
-use Rattle.tree.specs.Search.{found_here, found_none, passed-next}
+-- The library's search, by what the set says of one name.
+use Rattle.std.proofs.Common.{rules, arith, ◌-◌}
+use borrow.Author.Tests.{tests}
+use Rattle.tree.proofs.Ranges.{found-range}
 use Rattle.names.specs.Marks.{marked}
 use Rattle.checker.proofs.first_untaken.Goals as goal
 
-pub loop-x-init : goal.loop-x-init
-loop-x-init c = λ k low high. absurd (omega arith)
-
-pub returns-then-not-contains : goal.returns-then-not-contains
-returns-then-not-contains c =
-    let is = c.contains.ensures.is (omega arith) in
-    found_here (marked c.args.taken.now) c.args.from _ c.args.end (omega arith) c.loop-x.x (omega arith) c.loop-x-test.true c.loop-x.invariant (sym is ∙ c.if-not-contains.true)
-
-pub loop-x-preserved : goal.loop-x-preserved
-loop-x-preserved c =
-    let is = c.contains.ensures.is (omega arith) in
-    passed-next (marked c.args.taken.now) c.args.from c.loop-x.x c.loop-x.invariant (sym is ∙ c.if-not-contains.false)
-
 pub returns : goal.returns
-returns c = found_none (marked c.args.taken.now) c.args.from _ c.args.end (omega arith) (λ k low high. c.loop-x.invariant k low (omega arith))
+returns c =
+    found-range (marked c.args.taken.now) (c.args.end - c.args.from) _ _ _ _ (omega arith) c.find.ensures.ran (λ x q h. search (rules, tests)) (λ x q h. search (rules, tests))

@@ -21,9 +21,9 @@ pub called-returns-in_err-arguments-clause-executes : goal.called-returns-in_err
 called-returns-in_err-arguments-clause-executes t c =
     λ w ρ st fine.
     let own = c.from.ensures ∙ ap (λ r. r.first) c.procedure_at-callee.ensures in
-    let a = c.arguments.ensures.apart w.h w.s w.program ρ _ _ st.agree fine.within (rows_below w st _ _ fine _ own) in
+    let a = c.in_err-arguments.ensures.apart w.h w.s w.program ρ _ _ st.agree fine.within (rows_below w st _ _ fine _ own) in
     rw (passed_on _ c.from_residual.ensures.1, c.arguments.ensures.keeps.1)
-    (call_refused w st _ _ fine _ own _ a.0 _ _ _ _ _ c.arguments.ensures.same.1 (λ events t. rw c.in_err-arguments.was at (a.1 events t)) _ (some_number c.in_err-arguments.field-0.0))
+    (call_refused w st _ _ fine _ own _ a.0 _ _ _ _ _ c.arguments.ensures.same.1 a.1 _ (some_number c.in_err-arguments.field-0.0))
 
 pub called-statement-requires : goal.called-statement-requires
 called-statement-requires t c = (
@@ -35,76 +35,76 @@ pub called-returns-clause-executes : goal.called-returns-clause-executes
 called-returns-clause-executes t c =
     λ w ρ st fine.
     let own = c.from.ensures ∙ ap (λ r. r.first) c.procedure_at-callee.ensures in
-    let a = c.arguments.ensures.apart w.h w.s w.program ρ _ _ st.agree fine.within (rows_below w st _ _ fine _ own) in
-    call_on w st _ _ fine _ own _ a.0 _ _ _ _ _ c.arguments.ensures.same.1 (λ events t. rw c.in_ok-arguments.was at (a.1 events t)) _ refl _ _ _ _ _
+    let a = c.in_ok-arguments.ensures.apart w.h w.s w.program ρ _ _ st.agree fine.within (rows_below w st _ _ fine _ own) in
+    call_on w st _ _ fine _ own _ a.0 _ _ _ _ _ c.arguments.ensures.same.1 a.1 _ refl _ _ _ _ _
     (ap (λ r. r.body) c.procedure_at-callee.ensures) c.arguments.ensures.keeps.3 ((rw (c.arguments.ensures.keeps.0, c.arguments.ensures.keeps.1) at c.statement.ensures.executes) w)
 
 -- ---- a statement
 
 pub statement-statement-requires : goal.statement-statement-requires
 statement-statement-requires t c =
-    let s = rw (c.in_ok-begun.was, c.in-Branch.is) at c.begun.ensures.sound in
+    let s = rw c.in-Branch.is at c.in_ok-begun.ensures.sound in
     (omega (arith, c.decreases, s.1, s.0.inside, s.0.code.few), rw c.begun.ensures.keeps.0 (s.0, c.requires.1))
 
 pub statement-turns-requires : goal.statement-turns-requires
 statement-turns-requires t c =
-    let s = rw (c.in_ok-begun.was, c.in-Turns.is) at c.begun.ensures.sound in
+    let s = rw c.in-Turns.is at c.in_ok-begun.ensures.sound in
     (omega (arith, c.decreases, s.1.1), rw c.begun.ensures.keeps.0 (s.0, omega (arith, s.1.0, s.1.1), c.requires.1))
 
 pub statement-called-requires : goal.statement-called-requires
 statement-called-requires t c =
-    let s = rw (c.in_ok-begun.was, c.in-Call.is) at c.begun.ensures.sound in
+    let s = rw c.in-Call.is at c.in_ok-begun.ensures.sound in
     (omega (arith, c.decreases), rw c.begun.ensures.keeps.0 (s, c.requires.1))
 
 pub statement-statements-requires : goal.statement-statements-requires
 statement-statements-requires t c =
-    let s = rw (c.in_ok-begun.was, c.in-Block.is) at c.begun.ensures.sound in
+    let s = rw c.in-Block.is at c.in_ok-begun.ensures.sound in
     (omega (arith, c.decreases, s.1.0, c.requires.0.inside, c.requires.0.code.few), rw c.begun.ensures.keeps.0 (s.0, c.requires.1))
 
 pub statement-returns-in_err-statements-in-Block-clause-executes : goal.statement-returns-in_err-statements-in-Block-clause-executes
 statement-returns-in_err-statements-in-Block-clause-executes t c =
     λ w ρ st fine.
-    let o = rw (c.in_ok-begun.was, c.in-Block.is) at (c.begun.ensures.begins w _ ρ st fine) in
-    rw (passed_on _ c.from_residual-in_err-statements-in-Block.ensures.1) (led o.1 (both-refused w st _ _ _ _ _ _ _ _ _
-    (rw c.in_err-statements-in-Block.was at ((rw (c.begun.ensures.keeps.0, c.begun.ensures.keeps.1) at c.statements.ensures.executes) w ρ st o.0.1)) (some_number c.in_err-statements-in-Block.field-0.0)))
+    let o = rw c.in-Block.is at (c.in_ok-begun.ensures.begins w _ ρ st fine) in
+    rw (passed_on _ c.from_residual-in_err-statements-in-Block.ensures.1) (led o.1 (both-refused
+    ((rw (c.begun.ensures.keeps.0, c.begun.ensures.keeps.1) at c.in_err-statements-in-Block.ensures.executes) w ρ st o.0.1) _ (some_number c.in_err-statements-in-Block.field-0.0)))
 
 pub statement-returns-in-Finished-clause-executes : goal.statement-returns-in-Finished-clause-executes
 statement-returns-in-Finished-clause-executes t c =
     λ w ρ st fine.
-    let o = rw (c.in_ok-begun.was, c.in-Finished.is) at (c.begun.ensures.begins w _ ρ st fine) in
+    let o = rw c.in-Finished.is at (c.in_ok-begun.ensures.begins w _ ρ st fine) in
     rw c.begun.ensures.keeps.1 (finished o)
 
 pub statement-returns-in-Branch-clause-executes : goal.statement-returns-in-Branch-clause-executes
 statement-returns-in-Branch-clause-executes t c =
     λ w ρ st fine.
-    let o = rw (c.in_ok-begun.was, c.in-Branch.is) at (c.begun.ensures.begins w _ ρ st fine) in
+    let o = rw c.in-Branch.is at (c.in_ok-begun.ensures.begins w _ ρ st fine) in
     led o.1 ((rw (c.begun.ensures.keeps.0, c.begun.ensures.keeps.1) at c.statement.ensures.executes) w ρ st o.0)
 
 pub statement-returns-in-Turns-clause-executes : goal.statement-returns-in-Turns-clause-executes
 statement-returns-in-Turns-clause-executes t c =
     λ w ρ st fine.
-    let o = rw (c.in_ok-begun.was, c.in-Turns.is) at (c.begun.ensures.begins w _ ρ st fine) in
+    let o = rw c.in-Turns.is at (c.in_ok-begun.ensures.begins w _ ρ st fine) in
     led o.1 ((rw (c.begun.ensures.keeps.0, c.begun.ensures.keeps.1) at c.turns.ensures.executes) w ρ st o.0)
 
 pub statement-returns-in-Call-clause-executes : goal.statement-returns-in-Call-clause-executes
 statement-returns-in-Call-clause-executes t c =
     λ w ρ st fine.
-    let o = rw (c.in_ok-begun.was, c.in-Call.is) at (c.begun.ensures.begins w _ ρ st fine) in
+    let o = rw c.in-Call.is at (c.in_ok-begun.ensures.begins w _ ρ st fine) in
     led o.1 ((rw (c.begun.ensures.keeps.0, c.begun.ensures.keeps.1) at c.called.ensures.executes) w ρ st o.0)
 
 pub statement-returns-in_ok-statements-in-Block-clause-executes : goal.statement-returns-in_ok-statements-in-Block-clause-executes
 statement-returns-in_ok-statements-in-Block-clause-executes t c =
     λ w ρ st fine.
-    let o = rw (c.in_ok-begun.was, c.in-Block.is) at (c.begun.ensures.begins w _ ρ st fine) in
-    led o.1 (both-on w st _ _ _ _ _ _ _ _ _
-    (rw c.in_ok-statements-in-Block.was at ((rw (c.begun.ensures.keeps.0, c.begun.ensures.keeps.1) at c.statements.ensures.executes) w ρ st o.0.1)) refl
-    (rw c.begun.ensures.keeps.1 at c.statements.ensures.keeps.4) _ _ _ _
-    (λ st₁. end_ran w st₁ _ _ _ o.0.0 _ _ _ _ (c.block_end.ensures _ _ _)))
+    let o = rw c.in-Block.is at (c.in_ok-begun.ensures.begins w _ ρ st fine) in
+    led o.1 (both-on
+    ((rw (c.begun.ensures.keeps.0, c.begun.ensures.keeps.1) at c.in_ok-statements-in-Block.ensures.executes) w ρ st o.0.1) _ st refl
+    (rw c.begun.ensures.keeps.1 at c.statements.ensures.keeps.4)
+    (λ st₁. end_ran w st₁ _ _ _ o.0.0 (c.block_end.ensures _ _ _)))
 
 -- ---- a list of statements
 
 pub statements-returns-then-n-eq-MISSING-clause-executes : goal.statements-returns-then-n-eq-MISSING-clause-executes
-statements-returns-then-n-eq-MISSING-clause-executes t c = λ w ρ st fine. none w _ _ ρ _ c.if-n-eq-MISSING.true _ _ _ _
+statements-returns-then-n-eq-MISSING-clause-executes t c = λ w ρ st fine. none w _ _ ρ _ c.if-n-eq-MISSING.true
 
 pub statements-statements-requires : goal.statements-statements-requires
 statements-statements-requires t c =
@@ -116,7 +116,7 @@ statements-returns-in_err-statements-clause-executes t c =
     λ w ρ st fine.
     let sn = c.requires.0 c.if-n-eq-MISSING.false in
     rw (passed_on _ c.from_residual.ensures.1) (ran-same (list_inverse w sn _ c.args.inverse ρ _ c.next_at.ensures c.if-inverse.true)
-    (both-refused w st _ _ _ _ _ _ _ _ _ (rw c.in_err-statements.was at (c.statements.ensures.executes w ρ st (fine_rest w sn _ fine _ c.next_at.ensures))) (some_number c.in_err-statements.field-0.0)))
+    (both-refused (c.in_err-statements.ensures.executes w ρ st (fine_rest w sn _ fine _ c.next_at.ensures)) _ (some_number c.in_err-statements.field-0.0)))
 
 pub statements-statement-requires : goal.statements-statement-requires
 statements-statement-requires t c = (omega (arith, c.decreases), rw c.statements.ensures.keeps.0 (c.requires.0 c.if-n-eq-MISSING.false, c.requires.1))
@@ -126,8 +126,8 @@ statements-returns-then-inverse-clause-executes t c =
     λ w ρ st fine.
     let sn = c.requires.0 c.if-n-eq-MISSING.false in
     ran-same (list_inverse w sn _ c.args.inverse ρ _ c.next_at.ensures c.if-inverse.true)
-    (both-on w st _ _ _ _ _ _ _ _ _ (rw c.in_ok-statements.was at (c.statements.ensures.executes w ρ st (fine_rest w sn _ fine _ c.next_at.ensures))) refl
-    c.statements.ensures.keeps.4 _ _ _ _ (λ st₁. (rw c.statements.ensures.keeps.0 at c.statement.ensures.executes) w ρ st₁ (fine_first w sn _ fine)))
+    (both-on (c.in_ok-statements.ensures.executes w ρ st (fine_rest w sn _ fine _ c.next_at.ensures)) _ st refl
+    c.statements.ensures.keeps.4 (λ st₁. (rw c.statements.ensures.keeps.0 at c.statement.ensures.executes) w ρ st₁ (fine_first w sn _ fine)))
 
 pub statements-statement-requires-in-loop-at : goal.statements-statement-requires-in-loop-at
 statements-statement-requires-in-loop-at t c =
@@ -138,7 +138,7 @@ pub statements-returns-in_err-statement-clause-executes : goal.statements-return
 statements-returns-in_err-statement-clause-executes t c =
     let i = c.loop-at.invariant in
     rw (passed_on _ c.from_residual-in_err-statement.ensures.1) (follows_stops _ _ c.args.inverse _ _ _ _ _ i.follows c.if-inverse.false (i.follows.chain c.loop-at-test.true) _ _ _ _
-    (rw (i.keeps.0, c.in_err-statement.was) at c.statement-in-loop-at.ensures.executes) (some_number c.in_err-statement.field-0.0))
+    (rw i.keeps.0 at c.in_err-statement.ensures.executes) (some_number c.in_err-statement.field-0.0))
 
 pub statements-loop-at-smaller : goal.statements-loop-at-smaller
 statements-loop-at-smaller t c =
@@ -157,7 +157,7 @@ statements-loop-at-preserved t c =
         onward = omega (arith, next-behind sm, c.next_at-at.ensures, i.follows.onward);
         slots_long = c.statement-in-loop-at.ensures.keeps.4 ∙ i.follows.slots_long;
         followed = followed_on _ _ c.args.inverse _ _ _ _ _ i.follows c.if-inverse.false sm _ _ _ _
-            (rw (i.keeps.0, c.in_ok-statement.was) at c.statement-in-loop-at.ensures.executes) refl _ c.next_at-at.ensures;
+            (rw i.keeps.0 at c.in_ok-statement.ensures.executes) refl _ c.next_at-at.ensures;
       };
     }
 
@@ -184,7 +184,7 @@ turns-returns-in_err-step-clause-executes t c =
     let i = c.loop-run.invariant in
     λ w ρ st fine.
     rw (passed_on _ c.from_residual.ensures.1) (loop_stops _ _ _ _ _ _ _ _ i.turning.turned i.turning.slots_long _ c.put.ensures.sets w ρ st fine _ _ _ _ (some_number c.in_err-step.field-0.0)
-    (λ st₁ k h. turn_refused _ _ c.args.it _ _ _ _ _ _ (λ e. c.loop-run-test.true (c.cell.ensures ∙ e)) k h _ _ (rw c.in_err-step.was at (c.step.ensures.does c.loop-run.memory.cells.now)) i.turning.enough (some_number c.in_err-step.field-0.0)))
+    (λ st₁ k h. turn_refused _ _ c.args.it _ _ _ _ _ _ (λ e. c.loop-run-test.true (c.cell.ensures ∙ e)) k h _ _ (c.in_err-step.ensures.does c.loop-run.memory.cells.now) i.turning.enough (some_number c.in_err-step.field-0.0)))
 
 pub turns-statement-requires : goal.turns-statement-requires
 turns-statement-requires t c =
@@ -193,26 +193,24 @@ turns-statement-requires t c =
 pub turns-returns-in_err-statement-clause-executes : goal.turns-returns-in_err-statement-clause-executes
 turns-returns-in_err-statement-clause-executes t c =
     let i = c.loop-run.invariant in
-    let fewer = rw c.in_ok-step.was at c.step.ensures.fewer in
     λ w ρ st fine.
     rw (passed_on _ c.from_residual-in_err-statement.ensures.1)
     (loop_stops _ _ _ _ _ _ _ _ i.turning.turned i.turning.slots_long _ c.put.ensures.sets w ρ st fine _ _ _ _ (some_number c.in_err-statement.field-0.0)
-    (λ st₁ k h. body_refused _ _ c.args.it _ _ _ _ _ _ (λ e. c.loop-run-test.true (c.cell.ensures ∙ e)) k h _ _ (rw c.in_ok-step.was at (c.step.ensures.does c.loop-run.memory.cells.now)) (λ z. omega (arith, z, fewer, i.turning.enough)) refl
-    _ _ _ _ (rw c.in_err-statement.was at ((rw i.keeps.0 at c.statement.ensures.executes) w ρ st₁ fine)) (some_number c.in_err-statement.field-0.0)))
+    (λ st₁ k h. body_refused _ _ c.args.it _ _ _ _ _ _ (λ e. c.loop-run-test.true (c.cell.ensures ∙ e)) k h _ _ (c.in_ok-step.ensures.does c.loop-run.memory.cells.now) (λ z. omega (arith, z, c.in_ok-step.ensures.fewer, i.turning.enough)) refl
+    _ _ _ _ ((rw i.keeps.0 at c.in_err-statement.ensures.executes) w ρ st₁ fine) (some_number c.in_err-statement.field-0.0)))
 
 pub turns-returns-then-cell-it-clause-executes : goal.turns-returns-then-cell-it-clause-executes
 turns-returns-then-cell-it-clause-executes t c =
     let i = c.loop-run.invariant in
-    let fewer = rw c.in_ok-step.was at c.step.ensures.fewer in
     λ w ρ st fine.
     rw c.at.ensures (loop_stops _ _ _ _ _ _ _ _ i.turning.turned i.turning.slots_long _ c.put.ensures.sets w ρ st fine _ _ _ _ (λ e. omega (arith, e))
-    (λ st₁ k h. met_first _ _ c.args.it _ _ _ _ _ _ (λ e. c.loop-run-test.true (c.cell.ensures ∙ e)) k h _ _ (rw c.in_ok-step.was at (c.step.ensures.does c.loop-run.memory.cells.now)) (λ z. omega (arith, z, fewer, i.turning.enough)) refl
-    _ _ _ _ (rw c.in_ok-statement.was at ((rw i.keeps.0 at c.statement.ensures.executes) w ρ st₁ fine)) refl (sym c.cell-in-loop-run.ensures ∙ c.if-cell-it.true)))
+    (λ st₁ k h. met_first _ _ c.args.it _ _ _ _ _ _ (λ e. c.loop-run-test.true (c.cell.ensures ∙ e)) k h _ _ (c.in_ok-step.ensures.does c.loop-run.memory.cells.now) (λ z. omega (arith, z, c.in_ok-step.ensures.fewer, i.turning.enough)) refl
+    _ _ _ _ ((rw i.keeps.0 at c.in_ok-statement.ensures.executes) w ρ st₁ fine) refl (sym c.cell-in-loop-run.ensures ∙ c.if-cell-it.true)))
 
 pub turns-loop-run-preserved : goal.turns-loop-run-preserved
 turns-loop-run-preserved t c =
     let i = c.loop-run.invariant in
-    let fewer = rw c.in_ok-step.was at c.step.ensures.fewer in
+    let fewer = c.in_ok-step.ensures.fewer in
     record {
       keeps = same_memory c.args.memory.now c.loop-run.memory c.statement.new.memory i.keeps c.statement.ensures.keeps;
       same = same_run c.args.run.now c.loop-run.run c.statement.new.run i.same (same_run c.loop-run.run c.step.new.self c.statement.new.run c.step.ensures.same c.statement.ensures.same);
@@ -221,7 +219,7 @@ turns-loop-run-preserved t c =
         enough = omega (arith, fewer, i.turning.enough, c.statement.ensures.same.1);
         slots_long = c.statement.ensures.keeps.4 ∙ i.turning.slots_long;
         turned = turned_on _ _ _ _ _ _ _ _ i.turning.turned i.turning.slots_long (λ e. c.loop-run-test.true (c.cell.ensures ∙ e)) (λ z. omega (arith, z, fewer, i.turning.enough))
-            _ _ (rw c.in_ok-step.was at (c.step.ensures.does c.loop-run.memory.cells.now)) refl _ _ _ _ (rw (i.keeps.0, c.in_ok-statement.was) at c.statement.ensures.executes) refl (λ e. c.if-cell-it.false (c.cell-in-loop-run.ensures ∙ e));
+            _ _ (c.in_ok-step.ensures.does c.loop-run.memory.cells.now) refl _ _ _ _ (rw i.keeps.0 at c.in_ok-statement.ensures.executes) refl (λ e. c.if-cell-it.false (c.cell-in-loop-run.ensures ∙ e));
       };
     }
 

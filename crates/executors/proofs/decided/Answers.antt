@@ -6,12 +6,12 @@ use Rattle.executors.proofs.decided.Goals as goal
 pub returns-in_err-v-clause-decides : goal.returns-in_err-v-clause-decides
 returns-in_err-v-clause-decides c =
     λ w p n d ρ st within a b.
-    rw (passed_on _ c.from_residual.ensures.1, c.value.ensures.same.1) (first_refused w st _ _ within _ (rw c.in_err-v.was at (c.value.ensures.finds w.h w.s w.program)) _)
+    rw (passed_on _ c.from_residual.ensures.1, c.value.ensures.same.1) (first_refused w st _ _ within _ (c.in_err-v.ensures.finds w.h w.s w.program) _)
 
 pub returns-then-v-eq0-clause-decides : goal.returns-then-v-eq0-clause-decides
 returns-then-v-eq0-clause-decides c =
-    λ w p n d ρ st within a b. (b, rw c.value.ensures.same.1 (if_not w st _ _ within _ (rw c.in_ok-v.was at (c.value.ensures.finds w.h w.s w.program)) d _ _ c.if-v-eq0.true))
+    λ w p n d ρ st within a b. (b, rw c.value.ensures.same.1 (if_not w st _ _ within _ (c.in_ok-v.ensures.finds w.h w.s w.program) d _ _ c.if-v-eq0.true))
 
 pub returns-clause-decides : goal.returns-clause-decides
 returns-clause-decides c =
-    λ w p n d ρ st within a b. (a, rw c.value.ensures.same.1 (if_so w st _ _ within _ (rw c.in_ok-v.was at (c.value.ensures.finds w.h w.s w.program)) d _ _ c.if-v-eq0.false))
+    λ w p n d ρ st within a b. (a, rw c.value.ensures.same.1 (if_so w st _ _ within _ (c.in_ok-v.ensures.finds w.h w.s w.program) d _ _ c.if-v-eq0.false))

@@ -20,44 +20,44 @@ conditional_swap-requires c =
     (child_readable c.requires.code is_expression r.0, target_indexed c.requires.code _ r.1.0, target_indexed c.requires.code _ r.1.1)
 
 pub returns-in-Empty-clause-performs : goal.returns-in-Empty-clause-performs
-returns-in-Empty-clause-performs c = λ w p ρ st is m fine. empty-done w st _ _ fine _ _ _ (rw c.in-Empty.is at m)
+returns-in-Empty-clause-performs c = λ w p ρ st is m fine. empty-done w st _ _ fine (rw c.in-Empty.is at m)
 
 pub returns-in_err-update-in-Update-clause-performs : goal.returns-in_err-update-in-Update-clause-performs
 returns-in_err-update-in-Update-clause-performs c =
     λ w p ρ st is m fine.
-    rw (passed_on _ c.from_residual.ensures.1) (update_done w st _ _ fine _ _ _ _ _ _ c.in-Update.target c.in-Update.value c.in-Update.operator (rw c.in-Update.is at m)
-    (λ g. rw c.in_err-update-in-Update.was at (c.update.ensures.does w.h w.s w.program g)))
+    rw (passed_on _ c.from_residual.ensures.1) (update_done w st _ _ fine c.in-Update.target c.in-Update.value c.in-Update.operator (rw c.in-Update.is at m)
+    (c.in_err-update-in-Update.ensures.does w.h w.s w.program))
 
 pub returns-in_ok-update-in-Update-clause-performs : goal.returns-in_ok-update-in-Update-clause-performs
 returns-in_ok-update-in-Update-clause-performs c =
     λ w p ρ st is m fine.
-    update_done w st _ _ fine _ _ _ _ _ _ c.in-Update.target c.in-Update.value c.in-Update.operator (rw c.in-Update.is at m)
-    (λ g. rw c.in_ok-update-in-Update.was at (c.update.ensures.does w.h w.s w.program g))
+    update_done w st _ _ fine c.in-Update.target c.in-Update.value c.in-Update.operator (rw c.in-Update.is at m)
+    (c.in_ok-update-in-Update.ensures.does w.h w.s w.program)
 
 pub returns-in_err-swap-in-Swap-clause-performs : goal.returns-in_err-swap-in-Swap-clause-performs
 returns-in_err-swap-in-Swap-clause-performs c =
     λ w p ρ st is m fine.
-    rw (passed_on _ c.from_residual-in_err-swap-in-Swap.ensures.1) (swap_done w st _ _ fine _ _ _ _ _ _ c.in-Swap.left c.in-Swap.right (rw c.in-Swap.is at m)
-    (rw c.in_err-swap-in-Swap.was at (c.swap.ensures.does w.h w.s w.program)))
+    rw (passed_on _ c.from_residual-in_err-swap-in-Swap.ensures.1) (swap_done w st _ _ fine c.in-Swap.left c.in-Swap.right (rw c.in-Swap.is at m)
+    (c.in_err-swap-in-Swap.ensures.does w.h w.s w.program))
 
 pub returns-in_ok-swap-in-Swap-clause-performs : goal.returns-in_ok-swap-in-Swap-clause-performs
 returns-in_ok-swap-in-Swap-clause-performs c =
     λ w p ρ st is m fine.
-    swap_done w st _ _ fine _ _ _ _ _ _ c.in-Swap.left c.in-Swap.right (rw c.in-Swap.is at m)
-    (rw c.in_ok-swap-in-Swap.was at (c.swap.ensures.does w.h w.s w.program))
+    swap_done w st _ _ fine c.in-Swap.left c.in-Swap.right (rw c.in-Swap.is at m)
+    (c.in_ok-swap-in-Swap.ensures.does w.h w.s w.program)
 
 pub returns-in_err-conditional_swap-in-ConditionalSwap-clause-performs : goal.returns-in_err-conditional_swap-in-ConditionalSwap-clause-performs
 returns-in_err-conditional_swap-in-ConditionalSwap-clause-performs c =
     λ w p ρ st is m fine.
     rw (passed_on _ c.from_residual-in_err-conditional_swap-in-ConditionalSwap.ensures.1)
-    (conditional_done w st _ _ fine _ _ _ _ _ _ c.in-ConditionalSwap.left c.in-ConditionalSwap.right c.in-ConditionalSwap.condition (rw c.in-ConditionalSwap.is at m)
-    (rw c.in_err-conditional_swap-in-ConditionalSwap.was at (c.conditional_swap.ensures.does w.h w.s w.program)))
+    (conditional_done w st _ _ fine c.in-ConditionalSwap.left c.in-ConditionalSwap.right c.in-ConditionalSwap.condition (rw c.in-ConditionalSwap.is at m)
+    (c.in_err-conditional_swap-in-ConditionalSwap.ensures.does w.h w.s w.program))
 
 pub returns-in_ok-conditional_swap-in-ConditionalSwap-clause-performs : goal.returns-in_ok-conditional_swap-in-ConditionalSwap-clause-performs
 returns-in_ok-conditional_swap-in-ConditionalSwap-clause-performs c =
     λ w p ρ st is m fine.
-    conditional_done w st _ _ fine _ _ _ _ _ _ c.in-ConditionalSwap.left c.in-ConditionalSwap.right c.in-ConditionalSwap.condition (rw c.in-ConditionalSwap.is at m)
-    (rw c.in_ok-conditional_swap-in-ConditionalSwap.was at (c.conditional_swap.ensures.does w.h w.s w.program))
+    conditional_done w st _ _ fine c.in-ConditionalSwap.left c.in-ConditionalSwap.right c.in-ConditionalSwap.condition (rw c.in-ConditionalSwap.is at m)
+    (c.in_ok-conditional_swap-in-ConditionalSwap.ensures.does w.h w.s w.program)
 
 pub returns-in-If-clause-sound : goal.returns-in-If-clause-sound
 returns-in-If-clause-sound c =
@@ -68,7 +68,7 @@ pub returns-in-If-clause-performs : goal.returns-in-If-clause-performs
 returns-in-If-clause-performs c =
     λ w p ρ st is m fine.
     let i = if_left w st (direction_of c.args.inverse) c.args.n fine c.in-If.condition c.in-If.yes c.in-If.no (rw c.in-If.is at m) in
-    rw i.1 (c.decided.ensures.decides w p _ _ ρ st i.0.0 i.0.1.0 i.0.1.1)
+    rw i.1 (c.decided.ensures.decides w p _ _ ρ st i.0.0 i.0.1 i.0.2)
 
 pub returns-then-inverse-clause-sound : goal.returns-then-inverse-clause-sound
 returns-then-inverse-clause-sound c =
@@ -79,7 +79,7 @@ returns-then-inverse-clause-performs c =
     λ w p ρ st is m fine.
     let means = rw c.in-For.is at m in
     let i = for_within w st c.args.inverse _ fine _ _ _ _ means in
-    rw (for_inverse w st c.args.inverse _ fine _ _ _ _ means c.if-inverse.true) (c.bounded.ensures.bounds w p _ ρ st i.0 i.1.1.0 i.1.0 i.1.1.1)
+    rw (for_inverse w st c.args.inverse _ fine _ _ _ _ means c.if-inverse.true) (c.bounded.ensures.bounds w p _ ρ st i.0 i.2 i.1 i.3)
 
 pub returns-else-inverse-clause-sound : goal.returns-else-inverse-clause-sound
 returns-else-inverse-clause-sound c =
@@ -90,13 +90,13 @@ returns-else-inverse-clause-performs c =
     λ w p ρ st is m fine.
     let means = rw c.in-For.is at m in
     let i = for_within w st c.args.inverse _ fine _ _ _ _ means in
-    rw (for_forward w st c.args.inverse _ fine _ _ _ _ means c.if-inverse.false) (c.bounded-in-For.ensures.bounds w p _ ρ st i.0 i.1.0 i.1.1.0 i.1.1.1)
+    rw (for_forward w st c.args.inverse _ fine _ _ _ _ means c.if-inverse.false) (c.bounded-in-For.ensures.bounds w p _ ρ st i.0 i.1 i.2 i.3)
 
 pub returns-in-Call-clause-performs : goal.returns-in-Call-clause-performs
-returns-in-Call-clause-performs c = λ w p ρ st is m fine. call_left w st _ _ fine _ _ _ _ _ (rw c.in-Call.is at m)
+returns-in-Call-clause-performs c = λ w p ρ st is m fine. call_left w st _ _ fine _ _ (rw c.in-Call.is at m)
 
 pub returns-in-Uncall-clause-performs : goal.returns-in-Uncall-clause-performs
-returns-in-Uncall-clause-performs c = λ w p ρ st is m fine. uncall_left w st _ _ fine _ _ _ _ _ (rw c.in-Uncall.is at m)
+returns-in-Uncall-clause-performs c = λ w p ρ st is m fine. uncall_left w st _ _ fine _ _ (rw c.in-Uncall.is at m)
 
 pub returns-in-Block-clause-sound : goal.returns-in-Block-clause-sound
 returns-in-Block-clause-sound c =
@@ -104,7 +104,7 @@ returns-in-Block-clause-sound c =
     (child_chain c.requires.code r.1, (chain_behind c.requires.code c.requires.inside r.1, omega (arith, r.0, c.requires.code.narrow)))
 
 pub returns-in-Block-clause-performs : goal.returns-in-Block-clause-performs
-returns-in-Block-clause-performs c = λ w p ρ st is m fine. block-left w st _ _ fine _ _ _ _ _ _ (rw c.in-Block.is at m)
+returns-in-Block-clause-performs c = λ w p ρ st is m fine. block-left w st _ _ fine _ _ _ (rw c.in-Block.is at m)
 
 pub returns-in_default-clause-performs : goal.returns-in_default-clause-performs
 returns-in_default-clause-performs c = λ w p ρ st is m fine. absurd (not_statement _ is (search rules))

@@ -1,11 +1,13 @@
 -- One test after another; an accepted layout says how many nodes there are at most.
-use Rattle.std.proofs.Common.{rules, refl, ◌∙◌, ap}
+use Rattle.std.proofs.Common.{rules, sym, ◌∙◌, ap}
 use Rattle.rules.specs.Image as image
+use Rattle.rules.specs.Form.{Verdict}
 use Rattle.rules.specs.Check.{form_refusal}
+use Rattle.laws.specs.Records.{laid}
 use Rattle.records.specs.Parts.{as_parts}
 use Rattle.records.specs.Refusals.{then-stops}
 use Rattle.tree.specs.Search.{then-on}
-use Rattle.form.specs.Layout.{laid_by, layout_is}
+use Rattle.form.specs.Tests.{layout_is}
 use Rattle.form.proofs.form.Goals as goal
 
 pub returns-in_err-format : goal.returns-in_err-format
@@ -17,7 +19,7 @@ returns-in_err-layout c =
     then-on _ _ _ c.in_ok-format.ensures (search (rules, then-stops))
 
 pub parts_form-requires : goal.parts_form-requires
-parts_form-requires c = (laid_by _ _ _ c.in_ok-layout.ensures refl).few_nodes
+parts_form-requires c = (laid _ _ (ap (λ (v : Verdict). v.number) (sym c.in_ok-layout.ensures))).few_nodes
 
 pub returns : goal.returns
 returns c =

@@ -1,6 +1,7 @@
 -- Along the chain, with the parameters.
 use mathlib.Core.Path.{◌∙◌}
-use Rattle.walker.specs.Ways.{fit_none, fit_many, fit_stops, fit_goes, fit_next}
+use Rattle.std.proofs.Math.Arith.{lt_of_le-ne}
+use Rattle.walker.specs.Ways.{fit_none, fit_many, fit_stops, fit_goes}
 use Rattle.walker.proofs.Walk.+arguments_fit.Goals as goal
 
 pub returns-in_default : goal.returns-in_default
@@ -13,7 +14,7 @@ pub returns-then-argument_fits : goal.returns-then-argument_fits
 returns-then-argument_fits t c =
     λ h s k own.
     let g = c.in-Some.ensures.head h s k in
-    rw g.is (fit_goes s _ _ _ _ (c.argument_fits.ensures.is h s own) c.if-argument_fits.true (fit_next _ _ c.requires.1 c.if-y-end.false) (c.arguments_fit.ensures h s g.rest own))
+    rw g.is (fit_goes s _ _ _ _ (c.argument_fits.ensures.is h s own) c.if-argument_fits.true (lt_of_le-ne c.requires.1 c.if-y-end.false) (c.arguments_fit.ensures h s g.rest own))
 
 pub returns-else-argument_fits : goal.returns-else-argument_fits
 returns-else-argument_fits t c =

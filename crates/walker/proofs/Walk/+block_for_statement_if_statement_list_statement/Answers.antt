@@ -3,9 +3,9 @@ use mathlib.Core.Path.{refl, sym, ◌∙◌}
 use native.Mathlib.Omega.{arith}
 use Rattle.rules.specs.Tree.{declared}
 use Rattle.rules.specs.Walk.{stmt_refusal}
+use Rattle.records.specs.Decode.{decoded}
 use Rattle.names.specs.Class.{no_statement}
 use Rattle.names.specs.Sound.{means, refers, standing_child, never_refused, statement-classed, name_small, known_child, behind}
-use Rattle.names.specs.Expressions.{decoded}
 use Rattle.names.specs.Chains.{chain_standing, no_statements, first_statement_lem, later_statements}
 use Rattle.names.specs.Statements.{begun, begun-behind}
 use Rattle.walker.specs.Judge.{stops-on, goes, row}

@@ -2,10 +2,11 @@
 use mathlib.Core.Path.{refl, sym, ◌∙◌}
 use native.Mathlib.Omega.{arith}
 use Rattle.rules.specs.Walk.{expr_refusal, secret}
+use Rattle.records.specs.Decode.{decoded}
 use Rattle.names.specs.Class.{no_expression}
 use Rattle.names.specs.Sound.{means, never_refused, expression-classed, standing_child, refers, name_small, known_child, behind}
 use Rattle.names.specs.Chains.{index_stands, root-small}
-use Rattle.names.specs.Expressions.{decoded, value_naming, known_value, own_value}
+use Rattle.names.specs.Expressions.{value_naming, known_value, own_value}
 use Rattle.walker.specs.Judge.{halts, goes, valued, not_valued, value_element, value_variable}
 use Rattle.walker.proofs.Walk.+element_expression_value.Goals as goal
 

@@ -2,7 +2,7 @@
 use mathlib.Core.Path.{ap, ap₂, ◌∙◌}
 use Rattle.rules.specs.Image.{is_array}
 use Rattle.rules.specs.Walk.{same}
-use Rattle.names.specs.Chains.{root-place}
+use Rattle.records.specs.Cases.{root-place}
 use Rattle.walker.specs.Judge.{read, same_bits}
 use Rattle.walker.proofs.Walk.argument_fits.Goals as goal
 

@@ -1,6 +1,6 @@
 -- The indices, then the condition.
 use mathlib.Core.Path.{◌∙◌}
-use Rattle.names.specs.Chains.{root-place}
+use Rattle.records.specs.Cases.{root-place}
 use Rattle.walker.proofs.Walk.condition_clash.Goals as goal
 
 pub returns-then-swap_clash : goal.returns-then-swap_clash

@@ -1,6 +1,6 @@
 -- The value, then the index.
 use Rattle.names.specs.Marks.{member-left, member_right}
-use Rattle.names.specs.Chains.{root-place}
+use Rattle.records.specs.Cases.{root-place}
 use Rattle.walker.proofs.Walk.update_clash.Goals as goal
 
 pub returns-then-occurs : goal.returns-then-occurs

@@ -1,10 +1,15 @@
--- One operator after the other.
-use borrow.Author.Tests.{eq-eqb, ne_eqb}
+-- The two operators, those before them and those behind.
+use mathlib.Core.Path.{◌∙◌}
+use native.Mathlib.Omega.{arith}
+use Rattle.std.proofs.lemmas.Bool.Decides.{nat_tests}
 use Rattle.walker.specs.Judge.{slow-operator}
 use Rattle.walker.proofs.expressions.divides.Goals as goal
 
-pub returns-then-operator-eq4 : goal.returns-then-operator-eq4
-returns-then-operator-eq4 c = rw (← slow-operator c.args.operator, eq-eqb _ _ c.if-operator-eq4.true)
+pub returns-in-4 : goal.returns-in-4
+returns-in-4 c = grind (arith, nat_tests) ∙ slow-operator c.args.operator
 
-pub returns-else-operator-eq4 : goal.returns-else-operator-eq4
-returns-else-operator-eq4 c = rw (← slow-operator c.args.operator, ne_eqb _ _ c.if-operator-eq4.false)
+pub returns-in_default : goal.returns-in_default
+returns-in_default c = grind (arith, nat_tests) ∙ slow-operator c.args.operator
+
+pub returns-in_default-2 : goal.returns-in_default-2
+returns-in_default-2 c = grind (arith, nat_tests) ∙ slow-operator c.args.operator

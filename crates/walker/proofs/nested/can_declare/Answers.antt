@@ -7,10 +7,8 @@ use Rattle.walker.proofs.nested.can_declare.Goals as goal
 pub returns-then-contains : goal.returns-then-contains
 returns-then-contains c =
     λ D m l.
-    declarable_own c.args.q D c.args.x c.from.ensures c.from-2.ensures c.from-3.ensures c.from-4.ensures c.from-5.ensures c.contains.ensures.value
+    declarable_own c.args.q D c.args.x c.locals.ensures c.end.ensures c.from.ensures c.contains.ensures.value
     (ap not (c.contains-then-contains.ensures.tells D m l)) c.if-contains.true
 
 pub returns-else-contains : goal.returns-else-contains
-returns-else-contains c =
-    λ D m l.
-    declarable_other c.args.q D c.args.x c.from.ensures c.from-2.ensures c.from-3.ensures c.from-4.ensures c.from-5.ensures c.contains.ensures.value c.if-contains.false
+returns-else-contains c = λ D m l. declarable_other c.args.q D c.args.x c.locals.ensures c.end.ensures c.from.ensures c.contains.ensures.value c.if-contains.false

@@ -14,28 +14,28 @@ returns-then-n-eq-MISSING-clause-apart t c =
 
 pub returns-in_default-clause-apart : goal.returns-in_default-clause-apart
 returns-in_default-clause-apart t c =
-    λ h s p ρ lo hi agree within below. absurd (argument_found (c.requires.chained c.if-n-eq-MISSING.false) (sym c.lvalue_at.ensures ∙ c.in_default.is))
+    λ h s p ρ lo hi agree within below. absurd (argument_found (c.requires.chained c.if-n-eq-MISSING.false) (sym c.in_default.ensures))
 
 pub address-requires : goal.address-requires
-address-requires t c = argument_indexed (c.requires.chained c.if-n-eq-MISSING.false) _ (sym c.lvalue_at.ensures ∙ c.in-Some.is)
+address-requires t c = argument_indexed (c.requires.chained c.if-n-eq-MISSING.false) _ (sym c.in-Some.ensures)
 
 pub returns-in_err-i-clause-apart : goal.returns-in_err-i-clause-apart
 returns-in_err-i-clause-apart t c =
-    let placed = sym c.lvalue_at.ensures ∙ c.in-Some.is in
+    let placed = sym c.in-Some.ensures in
     λ h s p ρ lo hi agree within below.
     rw (passed_on _ c.from_residual.ensures.1) (lends_refused ρ _ _ _ _ (argument_place (c.requires.chained c.if-n-eq-MISSING.false) h s p _ placed _ refl) _ lo hi agree within below _
-    (rw c.in_err-i.was at (c.address.ensures.finds h s p)))
+    (c.in_err-i.ensures.finds h s p))
 
 pub arguments-requires : goal.arguments-requires
 arguments-requires t c =
-    let placed = sym c.lvalue_at.ensures ∙ c.in-Some.is in
+    let placed = sym c.in-Some.ensures in
     let f = next-falls (c.requires.chained c.if-n-eq-MISSING.false) _ placed _ c.next_at-next.ensures in
     (omega (arith, f, c.decreases), (rw c.lend.ensures.keeps.0 (next-chained (c.requires.chained c.if-n-eq-MISSING.false) _ placed _ c.next_at-next.ensures), omega (arith, f, c.requires.n_bound)))
 
 pub returns-clause-apart : goal.returns-clause-apart
 returns-clause-apart t c =
-    let placed = sym c.lvalue_at.ensures ∙ c.in-Some.is in
+    let placed = sym c.in-Some.ensures in
     λ h s p ρ lo hi agree within below.
     lends_on ρ _ _ _ _ (argument_place (c.requires.chained c.if-n-eq-MISSING.false) h s p _ placed _ c.next_at-next.ensures) _ lo hi agree within below
-    _ (rw c.in_ok-i.was at (c.address.ensures.finds h s p)) _ c.lend.ensures.keeps.3 c.lend.ensures.apart (λ small room. c.lend.ensures.lends small room h s) _ _ _
+    _ (c.in_ok-i.ensures.finds h s p) _ c.lend.ensures.keeps.3 c.lend.ensures.apart (λ small room. c.lend.ensures.lends small room h s) _ _ _
     ((rw (c.lend.ensures.keeps.0, c.lend.ensures.keeps.1) at c.arguments.ensures.apart) h s p ρ lo hi)

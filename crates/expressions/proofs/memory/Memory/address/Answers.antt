@@ -10,7 +10,7 @@ pub returns-in_err-at-in-Element-clause-finds : goal.returns-in_err-at-in-Elemen
 returns-in_err-at-in-Element-clause-finds c =
     λ h s p.
     rw (passed_on _ c.from_residual.ensures.1) (address-entry _ _ h s _ (entry_of _ _ _ c.in-Element.is)
-    (then_fault _ _ _ (rw c.in_err-at-in-Element.was at (c.value.ensures.finds h s p))))
+    (then_fault _ _ _ (c.in_err-at-in-Element.ensures.finds h s p)))
 
 pub returns-in-Variable-clause-finds : goal.returns-in-Variable-clause-finds
 returns-in-Variable-clause-finds c = λ h s p. rw c.base_of.ensures.0 (address-whole _ _ h s _ _ _ c.in-Variable.is)
@@ -19,4 +19,4 @@ pub returns-in_ok-at-in-Element-clause-finds : goal.returns-in_ok-at-in-Element-
 returns-in_ok-at-in-Element-clause-finds c =
     λ h s p.
     address-entry _ _ h s _ (entry_of _ _ _ c.in-Element.is)
-    (then_found _ _ _ (rw c.in_ok-at-in-Element.was at (c.value.ensures.finds h s p)) (c.indexed.ensures.finds _ _))
+    (then_found _ _ _ (c.in_ok-at-in-Element.ensures.finds h s p) (c.indexed.ensures.finds _ _))

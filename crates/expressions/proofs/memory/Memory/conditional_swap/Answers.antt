@@ -6,9 +6,9 @@ use Rattle.expressions.proofs.memory.Memory.conditional_swap.Goals as goal
 pub returns-in_err-v-clause-does : goal.returns-in_err-v-clause-does
 unfolding exchanging_if
 returns-in_err-v-clause-does c = λ h s p.
-    rw (passed_on _ c.from_residual.ensures.1, c.value.ensures.same.1) (reads_refused _ _ _ (rw c.in_err-v.was at (c.value.ensures.finds h s p)))
+    rw (passed_on _ c.from_residual.ensures.1, c.value.ensures.same.1) (reads_refused _ _ _ (c.in_err-v.ensures.finds h s p))
 
 pub returns-clause-does : goal.returns-clause-does
 unfolding exchanging_if
 returns-clause-does c = λ h s p.
-    reads _ _ _ (rw c.in_ok-v.was at (c.value.ensures.finds h s p)) (rw c.value.ensures.same.1 at (c.swap.ensures.does h s p))
+    reads _ _ _ (c.in_ok-v.ensures.finds h s p) (rw c.value.ensures.same.1 at (c.swap.ensures.does h s p))

@@ -6,16 +6,16 @@ use Rattle.expressions.proofs.memory.Memory.swap.Goals as goal
 pub returns-in_err-i-clause-does : goal.returns-in_err-i-clause-does
 unfolding exchanging
 returns-in_err-i-clause-does c = λ h s p.
-    rw (passed_on _ c.from_residual.ensures.1, c.address.ensures.same.1) (reads_refused _ _ _ (rw c.in_err-i.was at (c.address.ensures.finds h s p)))
+    rw (passed_on _ c.from_residual.ensures.1, c.address.ensures.same.1) (reads_refused _ _ _ (c.in_err-i.ensures.finds h s p))
 
 pub returns-in_err-j-clause-does : goal.returns-in_err-j-clause-does
 unfolding exchanging
 returns-in_err-j-clause-does c = λ h s p.
-    rw (passed_on _ c.from_residual-in_err-j.ensures.1, c.address-2.ensures.same.1, c.address.ensures.same.1) (reads _ _ _ (rw c.in_ok-i.was at (c.address.ensures.finds h s p))
-    (reads_refused _ _ _ (rw c.in_err-j.was at (c.address-2.ensures.finds h s p))))
+    rw (passed_on _ c.from_residual-in_err-j.ensures.1, c.address-2.ensures.same.1, c.address.ensures.same.1) (reads _ _ _ (c.in_ok-i.ensures.finds h s p)
+    (reads_refused _ _ _ (c.in_err-j.ensures.finds h s p)))
 
 pub returns-clause-does : goal.returns-clause-does
 unfolding exchanging
 returns-clause-does c = λ h s p.
-    rw (c.exchange.ensures.same.1, c.address-2.ensures.same.1, c.address.ensures.same.1) (reads _ _ _ (rw c.in_ok-i.was at (c.address.ensures.finds h s p))
-    (reads _ _ _ (rw c.in_ok-j.was at (c.address-2.ensures.finds h s p)) (c.exchange.ensures.writes _)))
+    rw (c.exchange.ensures.same.1, c.address-2.ensures.same.1, c.address.ensures.same.1) (reads _ _ _ (c.in_ok-i.ensures.finds h s p)
+    (reads _ _ _ (c.in_ok-j.ensures.finds h s p) (c.exchange.ensures.writes _)))

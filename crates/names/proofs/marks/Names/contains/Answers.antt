@@ -2,10 +2,10 @@
 use Rattle.names.specs.Marks.{marked}
 use Rattle.names.proofs.marks.Names.contains.Goals as goal
 
-pub returns-then-i-lt1024-clause-is : goal.returns-then-i-lt1024-clause-is
+pub returns-clause-is : goal.returns-clause-is
 unfolding marked
-returns-then-i-lt1024-clause-is c = λ l. rw c.from-i.ensures
+returns-clause-is c = rw c.get_or.ensures (rw c.from.ensures)
 
-pub returns-then-i-lt1024-clause-tells : goal.returns-then-i-lt1024-clause-tells
+pub returns-clause-tells : goal.returns-clause-tells
 unfolding marked
-returns-then-i-lt1024-clause-tells c = λ Γ m l. rw c.from-i.ensures (m.at _ l)
+returns-clause-tells c = λ Γ m l. rw (c.get_or.ensures, c.from.ensures) (m.at _ l)

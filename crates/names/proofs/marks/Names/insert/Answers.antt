@@ -2,5 +2,5 @@
 use Rattle.names.specs.Marks.{adds_one}
 use Rattle.names.proofs.marks.Names.insert.Goals as goal
 
-pub returns-then-i-lt1024 : goal.returns-then-i-lt1024
-returns-then-i-lt1024 c = λ l. rw c.from-i.ensures (adds_one _ _ l)
+pub returns : goal.returns
+returns c = λ l. rw (c.put.ensures, c.from.ensures) (adds_one _ _ l)
