@@ -1,20 +1,20 @@
 -- What the walk of the procedures rests on: the parts are those of an image whose form is accepted.
-use Prim.Native.Nat.{ℕ, zero, suc, ◌+◌, ◌-◌, ◌≤◌, ◌<◌}
+use Prim.Native.Nat.{ℕ, suc, ◌+◌, ◌-◌, ◌≤◌, ◌<◌}
 use Rattle.std.specs.Prelude.{◌≡◌, refl, List, [], ◌++◌, true, not, ◌||◌, eqb, leb, ltb, Option, unwrap_or, is_some, Result, Ok, ⊤}
 use Rattle.std.proofs.Common.{sym, ap, ◌∙◌}
 use Rattle.std.proofs.Math.Path.{subst}
 use Rattle.std.proofs.Math.Bool.{or-false}
-use Rattle.std.proofs.Math.Logic.{dite}
-use Rattle.std.proofs.Math.Decide.{ℕ_discrete}
 use native.Mathlib.Omega.{arith}
-use borrow.Author.Tests.{ltb-true, leb-true, eq-eqb}
-use Rattle.std.proofs.lemmas.Bool.{and_parts, or_right}
+use borrow.Author.Tests.{ltb-true, leb-true}
+use Rattle.std.proofs.lemmas.Bool.{and_parts}
 use Rattle.rules.specs.Image.{Header, header_of, Parts, parts_of, Procedure, procedure_of, node_of, is_statement}
 use Rattle.rules.specs.Form as form
 use Rattle.rules.specs.Form.{◌then◌, given, procedure_fits, format_refusal, layout_refusal}
 use Rattle.rules.specs.Tree.{Stmt, member, declared, range, reading_at, body_of, bodies, stands_in_tree}
 use Rattle.rules.specs.Walk.{stmt_refusal, undeclared_refusal, body_refusal, walk_refusal}
 use Rattle.rules.specs.Check.{slow, form_refusal, verdict_for, verdict}
+use Rattle.laws.specs.Verdicts.{is_true}
+use Rattle.laws.specs.Records.{body_member}
 use Rattle.records.specs.Records.{as_procedure}
 use Rattle.records.specs.Parts.{as_parts}
 use Rattle.records.specs.Refusals.{as_verdict}
@@ -123,13 +123,6 @@ walk_begins h s count = let e : count - 0 ≡ count = omega arith in rw e
 
 -- ---- an accepted form prepares the walk
 
-body_among : (s : List ℕ) (p count q : ℕ) → p ≤ q → q < p + count → member (procedure_of s q).body (bodies s p count) ≡ true
-unfolding bodies member
-body_among s p zero q low high = absurd (omega arith)
-body_among s p (suc count) q low high = dite (ℕ_discrete q p)
-    (λ e. rw (e, eq-eqb (procedure_of s p).body (procedure_of s p).body refl))
-    (λ n. or_right _ _ (body_among s (suc p) count q (omega arith) (omega arith)))
-
 module _ (image : List ℕ) (f : Formed image) where
   abbrev h : Header
   h = header_of image
@@ -152,7 +145,7 @@ module _ (image : List ℕ) (f : Formed image) where
         ends = omega (arith, f.laid_out.few_variables);
         parameters = leb-true _ _ t₄.0;
         inside = inside;
-        classed = rw (body_among s.procedures 0 h.procedures p (omega arith) (omega arith)) at (and_parts (not (member q.body (bodies s.procedures 0 h.procedures)) || _) _ (f.records.in_place q.body inside)).0;
+        classed = rw (is_true _ (body_member s.procedures 0 h.procedures p (omega arith) (omega arith))) at (and_parts (not (member q.body (bodies s.procedures 0 h.procedures)) || _) _ (f.records.in_place q.body inside)).0;
       }
 
   ranges : (p : ℕ) → p < h.procedures → (procedure_of s.procedures p).first + (procedure_of s.procedures p).count ≤ h.variables

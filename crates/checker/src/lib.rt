@@ -24,7 +24,8 @@ fn first_untaken(taken: &Names, from: u16, end: u16) -> Option<u16>
     (from..end).find(|&x| !taken.contains(x))
 }
 
-// 8: "non-parameter variable declared nowhere", the lowest of procedure q.
+// 8: "non-parameter variable declared nowhere", the lowest of procedure q. Its ends are names, u16s, as `Ranged` says; those of `Procedure`
+// are wider.
 fn undeclared(taken: &Names, q: Procedure) -> Verdict
     requires { Ranged q }
     ensures { (t : Stmt) → Marks taken.now (declared t) → as_verdict result ≡ undeclared_refusal (as_procedure q) t }

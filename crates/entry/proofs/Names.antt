@@ -33,9 +33,14 @@ sum-within ns j l = omega (arith, sum-split ns j, ap sum (drop-cons ns j 0 l))
 abbrev pub Good : Slot → Type 0
 Good x = (0 < x.width) × (x.width ≤ 64) × (x.base + x.cells ≤ 4096)
 
--- ---- both kinds of rows
-
 module _ {forbidden : Binary → Bool} {h : Header} {s : Parts} (f : Sound forbidden h s) where
+  -- The home of every local is good.
+  pub home-good : {works : ℕ} {lengths store : List ℕ} → Entered h s works lengths store → (y : ℕ) → y < h.variables → Good (home h s (length store) y)
+  unfolding home
+  home-good e y l = ((f.variable y l).some, (f.variable y l).word, omega (arith, room_grows h s y h.variables l, e.room))
+
+  -- ---- both kinds of rows
+
   module _ {works : ℕ} {lengths store : List ℕ} (e : Entered h s works lengths store)
       (slots₀ slots₁ slots₂ : Table) (long : length slots₀ ≡ 1024)
       (at_home : slots₁ ≡ slots_placed (home h s (length store)) 0 h.variables slots₀)
@@ -81,10 +86,6 @@ module _ {forbidden : Binary → Bool} {h : Header} {s : Parts} (f : Sound forbi
 
     -- ---- the cells of every row are among the 4,096, and their size is a word's
 
-    pub home-good : (y : ℕ) → y < h.variables → Good (home h s (length store) y)
-    unfolding home
-    home-good y l = ((f.variable y l).some, (f.variable y l).word, omega (arith, room_grows h s y h.variables l, e.room))
-
     store_good : (y : ℕ) → (last_of h s).first ≤ y → y < (last_of h s).first + length lengths → Good (get_or (store_slots s (last_of h s).first 0 lengths) (y - (last_of h s).first) no_slot)
     store_good y l m =
         let j : y - (last_of h s).first < length lengths = omega arith in
@@ -96,4 +97,4 @@ module _ {forbidden : Binary → Bool} {h : Header} {s : Parts} (f : Sound forbi
     pub starting-good : (y : ℕ) → (last_of h s).first ≤ y → y < (last_of h s).first + (last_of h s).count → Good (starting y)
     starting-good y l m = dite (dec_lt y ((last_of h s).first + length lengths))
         (λ k. rw (sym (rows_store y l k) ∙ rows_starting y l m) at (store_good y l k))
-        (λ k. rw (sym (rows_home y (omega (arith, last)) (inr (omega arith))) ∙ rows_starting y l m) at (home-good y (omega (arith, last))))
+        (λ k. rw (sym (rows_home y (omega (arith, last)) (inr (omega arith))) ∙ rows_starting y l m) at (home-good e y (omega (arith, last))))

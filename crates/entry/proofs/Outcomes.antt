@@ -1,13 +1,14 @@
 -- A run by its ways out: refused by the check, refused by 19 to 22, or what its execution came to.
 use Prim.Native.Nat.{ℕ, zero, suc, ◌+◌, ◌-◌, ◌≤◌}
 use mathlib.Core.Path.{◌≡◌, refl, ap, ◌∙◌}
-use mathlib.Core.List.{List, [], ◌∷◌, ◌++◌}
+use mathlib.Core.List.{List, [], ◌++◌}
 use native.Mathlib.Omega.{arith}
 use native.Mathlib.Nat.{sub-zero}
 use borrow.Author.Tests.{eq-eqb, ne_eqb}
 use lib.Dec.{lit<, nltb→le}
 use lib.ListN.{length, take, drop, replicate}
 use lib.Seq.{take-nil, take-append-add}
+use Rattle.std.proofs.lemmas.List.{drop-replicate, take-replicate}
 use Rattle.rules.specs.Image.{Header, header_of, Parts, parts_of, procedure_of}
 use Rattle.rules.specs.Form.{◌then◌}
 use Rattle.rules.specs.Check.{verdict}
@@ -94,19 +95,9 @@ entered h s works lengths store e =
 
 -- ---- the cells
 
-zeros-drop : (m w : ℕ) → drop {A = ℕ} m (replicate w 0) ≡ replicate (w - m) 0
-zeros-drop zero w = rw sub-zero
-zeros-drop (suc m) zero = let e : 0 - suc m ≡ 0 = omega arith in rw e
-zeros-drop (suc m) (suc w) = let e : suc w - suc m ≡ w - m = omega arith in rw e (zeros-drop m w)
-
-zeros-take : (m w : ℕ) → m ≤ w → take {A = ℕ} m (replicate w 0) ≡ replicate m 0
-zeros-take zero w l = refl
-zeros-take (suc m) zero l = absurd (omega arith)
-zeros-take (suc m) (suc w) l = ap (λ xs. 0 ∷ xs) (zeros-take m w (omega arith))
-
 -- Work words that are 0, with the store copied in front: the cells at the start of a run are the first of them.
 pub cells_begin : (store : List ℕ) (room works : ℕ) → length store + room ≤ works
     → take (length store + room) (store ++ drop (length store) (replicate works 0)) ≡ store ++ replicate room 0
 cells_begin store room works l =
     take-append-add store (drop (length store) (replicate works 0)) room
-    ∙ ap (λ xs. store ++ xs) (rw (zeros-drop (length store) works) (zeros-take room (works - length store) (omega arith)))
+    ∙ ap (λ xs. store ++ xs) (rw (drop-replicate {X = ℕ} (length store) works 0) (take-replicate {X = ℕ} room (works - length store) 0 (omega arith)))

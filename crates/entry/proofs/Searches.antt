@@ -11,7 +11,7 @@ use borrow.Author.Tests.{eqb-true, eqb-false}
 use lib.Dec.{eqb}
 use lib.ListN.{length, get_or}
 use Rattle.std.specs.Prelude.{Option, Some, None}
-use Rattle.std.specs.Option.{MatchOption, option_map, unwrap_or}
+use Rattle.std.specs.Option.{MatchOption, option_map}
 use Rattle.std.specs.List.{between}
 use Rattle.std.proofs.lemmas.List.Edits.{length-between, get_or-between}
 use Rattle.rules.specs.Form.{search}
@@ -46,15 +46,6 @@ search-further p q more i (suc count) = go (p i) refl (search-further p q more (
         let on : i + suc count ≡ suc i + count = omega arith in
         rw (more i e, on) rest
     go false e rest = let all : i + suc count - i ≡ suc count = omega arith in rw all
-
--- The place that was found, or the end, is where the search ends.
-pub found-or_end : (p : ℕ → Bool) (i n : ℕ) → i ≤ n → unwrap_or (found p i (n - i)) n ≡ search p i (n - i)
-unfolding found
-found-or_end p i n l = go (eqb (search p i (n - i)) (i + (n - i))) refl
-  where
-    go : (b : Bool) → eqb (search p i (n - i)) (i + (n - i)) ≡ b → unwrap_or (cond b None (Some (search p i (n - i)))) n ≡ search p i (n - i)
-    go true e = let at : search p i (n - i) ≡ i + (n - i) = eqb-true _ _ e in omega arith
-    go false e = refl
 
 -- What is known of the first place from i on and below n that fails, if there is one.
 abbrev FirstFailing : (ℕ → Bool) → ℕ → ℕ → Option ℕ → Type 0

@@ -2,27 +2,15 @@
 // The table of slots says for each variable where it lives.
 ghost use Rattle.std.specs.Prelude.{◌≡◌, ◌+◌, ◌*◌, ◌-◌, ◌<◌, ◌≤◌, length, get_or};
 ghost use Rattle.rules.specs.Image.{is_secret};
-ghost use Rattle.rules.specs.Form.{search};
 ghost use Rattle.rules.specs.Walk.{type_of};
 ghost use Rattle.rules.specs.Machine.{no_slot};
 ghost use Rattle.rules.specs.Run.{room_of, room_before, home, store_slots, sum};
 ghost use Rattle.records.specs.Records.{as_header, as_procedure, as_variable};
 ghost use Rattle.records.specs.Parts.{as_parts};
-ghost use Rattle.entry.specs.Cells.{ends_at, cells_by, Walked};
+ghost use Rattle.entry.specs.Cells.{cells_by, Walked};
 ghost use Rattle.entry.specs.Slots.{slot_placed, slots_placed};
 
 use records::{Header, Parts, Procedure, Slot, Variable};
-
-// The lowest procedure from `from` on whose variables end behind x, or how many procedures there are: a number and no `Option`, since
-// the walk through the variables goes on from it.
-fn owner_from(procedures: &[u8], count: u16, from: u16, x: u16) -> u16
-    requires { from ≤ count }
-    ensures { (result ≡ search (ends_at procedures.now x) from (count - from)) × (result ≤ count) }
-{
-    (from..count)
-        .find(|&p| u32::from(x) < records::procedure_at(procedures, p).end())
-        .unwrap_or(count)
-}
 
 // How many cells variable x has as a local of the procedure q: parameters and constants have none.
 #[tactic(auto, unfolding(crate::specs::Cells::cells_by))]
@@ -52,7 +40,7 @@ fn local_at(h: Header, parts: &Parts, from: u16, x: u16) -> Local
     ensures walked { Walked (as_header h) (as_parts parts.now) result.owner (x + 1) }
     ensures read { (as_variable result.variable ≡ type_of (as_parts parts.now) x) × (result.cells ≡ room_of (as_header h) (as_parts parts.now) x) }
 {
-    let owner = owner_from(parts.procedures, h.procedures, from, x);
+    let owner = form::owner_from(parts.procedures, from, h.procedures, x).unwrap_or(h.procedures);
     let variable = records::variable_at(parts.variables, x);
     let cells = cells_of(records::procedure_at(parts.procedures, owner), variable, x);
     Local {
@@ -63,6 +51,8 @@ fn local_at(h: Header, parts: &Parts, from: u16, x: u16) -> Local
 }
 
 // How many cells all locals of the image have together.
+// Here and in `place_locals` a loop walks by `local_at`: a walk for both would take a closure for what is done with each variable, and
+// be longer than the loop.
 pub fn room(h: Header, parts: &Parts) -> u64
     ensures { (result ≡ room_before (as_header h) (as_parts parts.now) h.variables) × (result < 4294967296) }
 {
@@ -108,6 +98,7 @@ pub fn place_locals(h: Header, parts: &Parts, stored: u16, slots: &mut [Slot]) -
 }
 
 // The slots of the last procedure's parameters, from variable `first` on: the store's cells in order, by these lengths.
+// `as` cuts nothing: the clause keeps each place j below 1,024 and each length n to 4,096.
 pub fn place_store(parts: &Parts, first: u16, lengths: &[u64], slots: &mut [Slot])
     requires { (first + length lengths.now ≤ length slots.old) × (first + length lengths.now ≤ 1024) × (sum lengths.now ≤ 4096) }
     ensures { slots.new ≡ slots_placed (λ y. get_or (store_slots (as_parts parts.now) first 0 lengths.now) (y - first) no_slot) first (length lengths.now) slots.old }

@@ -20,6 +20,7 @@ fn length_fits(v: Variable, n: u64) -> bool
 // Whether 20 is not given, in one pass that tests and sums: as many lengths as parameters, each fits its parameter, and together they are the store's length.
 // The parts, the first parameter and the lengths go one by one, here, below and in `place_store`: as fields of a struct each would
 // stand in these clauses behind `self.now`, and no clause would be shorter.
+// `as` cuts nothing: each place j is below `parameters`, and `stored` is a usize.
 pub fn lengths_fit(
     parts: &Parts,
     first: u16,
@@ -59,6 +60,7 @@ fn first_wide_in(cells: &[u64], z: u8) -> Option<usize>
 }
 
 // The first cell of the store that is not below 2^z, z the size of its parameter.
+// `as` cuts nothing: the clause keeps each place j below 65,535 and each length n to the store's.
 pub fn first_wide_cell(parts: &Parts, first: u16, lengths: &[u64], store: &[u64]) -> Option<usize>
     requires { (first + length lengths.now ≤ 65535) × (sum lengths.now ≡ length store.now) }
     ensures { result ≡ found (λ i. ltb (get_or store.now i 0) (2 ^ get_or (per_cell (λ v. v.size) (as_parts parts.now) first lengths.now) i 0)) 0 (length store.now) }
@@ -75,7 +77,7 @@ pub fn first_wide_cell(parts: &Parts, first: u16, lengths: &[u64], store: &[u64]
     None
 }
 
-// 19 to 22: the first that is given.
+// 19 to 22: the first that is given. `as` cuts nothing: where 20 is not given, the store has at most 16 * 4,096 cells.
 pub fn entry_refusal(
     h: Header,
     parts: &Parts,

@@ -1,5 +1,5 @@
-// The work words cleared, the store copied into them and back: a library call each, and functions, since wrong answers of this file
-// (last_word_left, store_from_the_last_word) are tried by name.
+// The work words cleared, the store copied into them and back: a library call each, and functions, since docs/CONTRACTS.md names the
+// three, and wrong answers of `clear` and `copy_out` (last_word_left, store_from_the_last_word) are tried by name.
 ghost use Rattle.std.specs.Prelude.{◌≡◌, ◌≤◌, ◌++◌, length, replicate, take, drop};
 
 // Every word 0.

@@ -1,6 +1,10 @@
 // The cycle of executors: statement, list of statements, loop and called body, by node number, in both directions.
 // A statement begins outside the cycle: its step, its operands and its own cells. What is left of it is one of a set of cases.
-// Memory and run are handed on side by side: a leaf borrows either of them alone. Direction is a `bool`, as the C interface has it.
+// Memory and run are handed on side by side: a leaf borrows either of them alone.
+// Direction is a `bool`: the clauses of `statement`, of `update` and of the runner speak of `direction_of inverse`.
+// `Statement` and `Bodies` are of a node's or a procedure's number and of the parts lent beside it: as an invariant of a type that has both,
+// either would have to be shown wherever a number is read out of a record, and each clause would name the type's fields.
+// `KeepsSlots`, `SameMemory` and `SameRun` say of a lent struct, before and after, what a call leaves as it was: an invariant knows one moment.
 #![tactic(auto)]
 
 ghost use Rattle.std.specs.Prelude.{◌≡◌, ℕ, ◌<◌};

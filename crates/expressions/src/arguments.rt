@@ -39,6 +39,7 @@ impl Memory<'_> {
     }
 
     // What the arguments from node n on lend is written to the slots from y on: the first, then the rest, as the clause has them.
+    // The target is tested by `let .. else`, the form that docs/FORMS.md names, as in records.
     pub fn arguments(&mut self, run: &mut Run<'_>, y: usize, n: u16) -> Verdict
         requires chained { Chained self.old.parts.nodes.now n }
         requires n_bound { y + (65535 - n) < 1048576 }

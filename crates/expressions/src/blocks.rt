@@ -10,21 +10,16 @@ use crate::Memory;
 use records::{Rule, Verdict};
 
 impl Memory<'_> {
-    // Are all cells of variable x 0? A loop, here and in `cleared`: by `all` a goal is left that no short answer closes.
-    #[tactic(auto, unfolding(rules::specs::Machine::zeros), using(crate::proofs::Laws::zeros_more))]
+    // Are all cells of variable x 0?
     fn is_zero(&self, x: u16) -> bool
         ensures { result ≡ zeros self.now.cells.now (slot_of self.now.slots.now x).base (slot_of self.now.slots.now x).cells }
     {
         let base = self.base_of(x);
-        for i in base..base + self.count_of(x) {
-            if self.cell(i) != 0 {
-                return false;
-            }
-        }
-        true
+        (base..base + self.count_of(x)).all(|i| self.cell(i) == 0)
     }
 
     // Is variable x of the other secrecy, or are all its cells 0?
+    // `secrecy`, here and in `cleared`, is what a slot's own is compared with, and no switch.
     #[tactic(auto, unfolding(crate::specs::Commands::passing))]
     fn passes(&self, secrecy: bool, x: u16) -> bool
         ensures { result ≡ passing secrecy (slot_of self.now.slots.now x) self.now.cells.now }
@@ -33,17 +28,11 @@ impl Memory<'_> {
     }
 
     // Are all cells of the names from first on, below end, whose secrecy is the given one, 0?
-    #[tactic(auto, unfolding(rules::specs::Machine::cleared, rules::specs::Tree::range, crate::specs::Commands::passing), using(crate::proofs::Laws::cleared_more))]
     fn cleared(&self, secrecy: bool, first: u16, end: u16) -> bool
         requires { first ≤ end }
         ensures { result ≡ cleared secrecy (slot_of self.now.slots.now) (range first (end - first)) self.now.cells.now }
     {
-        for x in first..end {
-            if !self.passes(secrecy, x) {
-                return false;
-            }
-        }
-        true
+        (first..end).all(|x| self.passes(secrecy, x))
     }
 
     // The clearing tests at the end of block n over its count names from first on: 26 for a public one, 27 for a secret one where none is public.
@@ -53,12 +42,7 @@ impl Memory<'_> {
             self.now.cells.now trace (ran (Ok tt) left entries) self.now.cells.now trace (ran result left entries) }
     {
         let end = first + count;
-        if !self.cleared(false, first, end) {
-            return Err(Rule::PublicLeft.at(n));
-        }
-        if !self.cleared(true, first, end) {
-            return Err(Rule::SecretLeft.at(n));
-        }
-        Ok(())
+        Rule::PublicLeft.given(n, !self.cleared(false, first, end))?;
+        Rule::SecretLeft.given(n, !self.cleared(true, first, end))
     }
 }

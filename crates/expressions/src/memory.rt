@@ -1,4 +1,6 @@
 // What a run reads and writes: the image's parts, the cells, and where each variable's cells are.
+// A frame (`KeepsSlots`, `KeepsCells`, `SameSteps`, `SameRun`) says of a lent struct, before and after, what a call leaves as it was.
+// It stands with each function: a type's invariant knows one moment alone.
 ghost use Rattle.std.specs.Prelude.{◌≡◌, ◌≤◌, ◌<◌, ◌*◌, get_or, set, length};
 ghost use Rattle.rules.specs.Machine.{load};
 ghost use Rattle.records.specs.Slots.{as_slot};
@@ -31,9 +33,10 @@ impl Memory<'_> {
         records::put(self.cells, i as usize, v);
     }
 
-    // What a cell has, with its event.
+    // What a cell has, with its event. `i < 131072` is of a number just worked out, and stands with each function that takes it:
+    // `load` and `change` of the rules take the number itself, and each clause would have to name the field of a type for it.
     #[tactic(auto, using(crate::proofs::Laws::loaded_on))]
-    pub fn loaded(&self, run: &mut Run<'_>, i: u64) -> u64
+    pub(crate) fn loaded(&self, run: &mut Run<'_>, i: u64) -> u64
         requires { i < 131072 }
         ensures finds { Finds (load self.now.cells.now i) run.old (Ok result) run.new }
         ensures same { SameSteps run.old run.new }
@@ -43,7 +46,7 @@ impl Memory<'_> {
     }
 
     // Where variable x lives.
-    pub fn slot(&self, x: u16) -> Slot
+    pub(crate) fn slot(&self, x: u16) -> Slot
         ensures { as_slot result ≡ slot_of self.now.slots.now x }
     {
         records::get_or(self.slots, usize::from(x), NO_SLOT)
@@ -64,7 +67,7 @@ impl Memory<'_> {
     }
 
     // The size of variable x, between 1 and 64 whatever its slot has.
-    pub fn width_of(&self, x: u16) -> u64
+    pub(crate) fn width_of(&self, x: u16) -> u64
         ensures { ((0 < result) × (result ≤ 64)) × (Good (slot_of self.now.slots.now x) → result ≡ (slot_of self.now.slots.now x).width) }
     {
         u64::from(self.slot(x).width).clamp(1, 64)

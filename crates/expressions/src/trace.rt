@@ -15,7 +15,7 @@ pub struct Run<'a> {
 }
 
 impl Run<'_> {
-    // One more event at the end, written where it fits.
+    // One more event at the end, written where it fits. By `as`, since there is no `From` between `u64` and `usize`.
     pub fn push(&mut self, event: u32)
         ensures emits { Emits event self.old self.new }
         ensures same { SameSteps self.old self.new }
@@ -34,14 +34,13 @@ impl Run<'_> {
     }
 
     // One step at node n, or 23.
+    #[tactic(auto, using(crate::proofs::Laws::passed))]
     pub fn step(&mut self, n: u16) -> Verdict
         ensures does { (σ : List ℕ) → Acts (step n done) σ self.old σ result self.new }
         ensures fewer { OnOk result (self.new.left < self.old.left) }
         ensures same { SameRun self.old self.new }
     {
-        if self.left == 0 {
-            return Err(Rule::Budget.at(n));
-        }
+        Rule::Budget.given(n, self.left == 0)?;
         self.left -= 1;
         self.push(u32::from(n));
         Ok(())

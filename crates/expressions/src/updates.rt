@@ -1,4 +1,5 @@
 // The statements that change cells: update, swap and conditional swap, once their step is taken.
+// What is known of a number, and what a call leaves as it was, stands in each clause: the reasons are at `value`, at `loaded`, and at the head of memory.rt.
 ghost use Rattle.std.specs.Prelude.{◌≡◌, ℕ, ◌≤◌, ◌<◌};
 ghost use Rattle.rules.specs.Words.{update_of, changed_by, going};
 ghost use Rattle.rules.specs.Image.{Header, Parts, is_expression};

@@ -14,13 +14,11 @@ use records::{LValue, Node, Refusal, Rule};
 // The operator of that number on two values, or 25 at the operator's node n. Inlined, as `named` is: `value`, which recurses, would call
 // them (D23).
 #[inline(always)]
-#[tactic(auto, using(crate::proofs::Laws::divided_found, crate::proofs::Laws::divided_refused))]
+#[tactic(auto, using(crate::proofs::Laws::divided_found, crate::proofs::Laws::passed))]
 fn combined(n: u16, operator: u8, v: u64, w: u64) -> Result<u64, Refusal>
     ensures { (trace : List ℕ) (entries : ℕ) → Gets (divided n (binary_of operator) v w) trace entries trace (valued result entries) }
 {
-    if words::zero_divisor(operator, w) {
-        return Err(Rule::ZeroDivisor.at(n));
-    }
+    Rule::ZeroDivisor.given(n, words::zero_divisor(operator, w))?;
     Ok(words::binary(operator, v, w))
 }
 
@@ -42,18 +40,17 @@ impl Memory<'_> {
     }
 
     // The cell of array x at this index, or 24 at the element's node n.
-    #[tactic(auto, using(crate::proofs::Laws::inside_found, crate::proofs::Laws::inside_refused))]
+    #[tactic(auto, using(crate::proofs::Laws::inside_found, crate::proofs::Laws::passed))]
     fn indexed(&self, n: u16, x: u16, index: u64) -> Result<u64, Refusal>
         ensures below { (valued result 0).value < 131072 }
         ensures finds { (trace : List ℕ) (entries : ℕ) → Gets (inside n (slot_of self.now.slots.now x) index) trace entries trace (valued result entries) }
     {
-        if index < self.count_of(x) {
-            return Ok(self.base_of(x) + index);
-        }
-        Err(Rule::Index.at(n))
+        Rule::Index.given(n, self.count_of(x) <= index)?;
+        Ok(self.base_of(x) + index)
     }
 
-    // The value of the expression at node n.
+    // The value of the expression at node n. `Readable`, as `Indexed` below, is of a number and of the nodes lent beside it: as an invariant of
+    // a type that has both it would have to be shown wherever a number is read out of a record, and each clause would name the two fields.
     pub fn value(&self, run: &mut Run<'_>, n: u16) -> Result<u64, Refusal>
         requires { Readable is_expression self.now.parts.nodes.now n }
         ensures finds { (h : Header) (s : Parts) → ProgramOf h s self.now.parts
@@ -90,7 +87,8 @@ impl Memory<'_> {
         }
     }
 
-    // The cell of an L-value, below 131,072.
+    // The cell of an L-value, below 131,072. As in `value`, an index and then its cell: these two lines as a function of their own would be
+    // one more member of `value`'s cycle.
     pub fn address(&self, run: &mut Run<'_>, target: LValue) -> Result<u64, Refusal>
         requires { Indexed self.now.parts.nodes.now target }
         ensures below { (valued result 0).value < 131072 }

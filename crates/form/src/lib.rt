@@ -1,7 +1,9 @@
 // Verdicts 1 to 6: the layout, the records, the table of fields, the tree.
+// The header and the part that is asked are handed over side by side: as fields of a struct each would stand in the clauses behind
+// `self.now`, and no clause would be shorter.
 #![tactic(auto)]
 
-ghost use Rattle.std.specs.Prelude.{◌≡◌, Some, None, not, cond, ◌&&◌, ◌+◌, ◌*◌, ◌≤◌, eqb, leb, ltb, unwrap_or};
+ghost use Rattle.std.specs.Prelude.{◌≡◌, Some, None, not, cond, ◌&&◌, ◌+◌, ◌-◌, ◌*◌, ◌≤◌, eqb, leb, ltb, unwrap_or};
 ghost use Rattle.rules.specs.Image.{header_of, parts_of, procedure_of, node_of};
 ghost use Rattle.rules.specs.Form.{◌then◌, given, format_refusal, counts_fit, parts_follow, layout_refusal, procedure_fits, owner, is_parameter, extra_fits, size_fits, variable_fits, field_fits, operator_fits, record_fits};
 ghost use Rattle.rules.specs.Check.{form_refusal};
@@ -92,12 +94,20 @@ fn first_bad_procedure(h: Header, procedures: &[u8]) -> Option<u16>
     None
 }
 
+// The lowest procedure from `from` on whose variables end behind x.
+pub fn owner_from(procedures: &[u8], from: u16, count: u16, x: u16) -> Option<u16>
+    requires { from ≤ count }
+    ensures { result ≡ found (λ p. leb ((procedure_of procedures.now p).first + (procedure_of procedures.now p).count) x) from (count - from) }
+{
+    (from..count).find(|&p| u32::from(x) < records::procedure_at(procedures, p).end())
+}
+
 // Whose variable x is: the lowest procedure whose range ends behind it.
 pub fn owner(h: Header, procedures: &[u8], x: u16) -> Option<u16>
     ensures owner { unwrap_or result h.procedures ≡ owner (as_header h) procedures.now x }
     ensures lowest { result ≡ found (λ p. leb ((procedure_of procedures.now p).first + (procedure_of procedures.now p).count) x) 0 h.procedures }
 {
-    (0..h.procedures).find(|&p| u32::from(x) < records::procedure_at(procedures, p).end())
+    owner_from(procedures, 0, h.procedures, x)
 }
 
 // "parameters come first"; of a variable that no procedure has, the record behind the last is asked.
@@ -131,6 +141,7 @@ fn size_fits(z: u8) -> bool
 }
 
 // "Constants and counters are public, 64. Parameters are kind 0 or 1."
+// Kind and secrecy are tested as the bytes they are and not as cases, since verdict 4 is asked of every byte.
 #[tactic(auto, unfolding(rules::specs::Form::variable_fits))]
 fn variable_fits(h: Header, parameter: bool, v: Variable) -> bool
     ensures { result ≡ variable_fits (as_header h) parameter (as_variable v) }
@@ -179,6 +190,7 @@ impl<'a> Entry<'a> {
     }
 
     // Whether v can stand in a field of this class. Inlined, since a check asks five times for each node (D23).
+    // Of the node that v refers to the kind alone is read, and its ranges are patterns here: `is_expression` and its kin ask a whole record.
     #[inline(always)]
     #[tactic(auto, unfolding(rules::specs::Form::field_fits, rules::specs::Form::refers))]
     fn field_fits(&self, class: Class, v: u16) -> bool

@@ -2,21 +2,19 @@
 -- So the trace's length and the allowance of every step that is left, together, never grow.
 use Prim.Native.Nat.{ℕ, zero, suc, ◌+◌, ◌-◌, ◌*◌, ◌^◌, ◌≤◌, ◌<◌}
 use mathlib.Core.List.{List, [], ◌∷◌, ◌++◌}
-use Rattle.std.specs.Prelude.{◌≡◌, refl, Bool, true, false, not, ◌&&◌, length, get_or, replicate, T, eqb, ltb}
-use Rattle.std.proofs.Common.{⊎_elim, eqb→eq, lit<, T_not}
-use Rattle.std.proofs.Math.Logic.{dite}
+use Rattle.std.specs.Prelude.{◌≡◌, refl, Bool, true, false, ◌&&◌, length, get_or, replicate, eqb, ltb}
+use Rattle.std.proofs.Common.{eqb→eq, lit<}
 use native.Mathlib.Omega.{arith}
-use Rattle.std.proofs.Math.Decide.{ℕ_discrete}
 use Rattle.std.proofs.Math.ListN.{length-append}
 use Rattle.rules.specs.Words.{Direction, forward, inverse, turned, Binary, divides}
-use Rattle.rules.specs.Image.{Header, header_of, Parts, parts_of, procedure_of, node_of, is_statement}
+use Rattle.rules.specs.Image.{Header, header_of, Parts, parts_of, procedure_of, node_of}
 use Rattle.rules.specs.Form.{record_fits, node_refusal}
-use Rattle.rules.specs.Tree.{node_references, bodies, occurrences, member, reference_refusal, depths, chained, stands_in_tree, place_refusal, tree_refusal, Expr, number, constant, variable, element, size, binary, unary, LValue, whole, entry, Stmt, empty, update, swap, conditional_swap, branch, loop, call, block, nothing, list, body_of, variables, index, indices}
+use Rattle.rules.specs.Tree.{node_references, bodies, occurrences, reference_refusal, stands_in_tree, place_refusal, tree_refusal, Expr, number, constant, variable, element, size, binary, unary, LValue, whole, entry, Stmt, empty, update, swap, conditional_swap, branch, loop, call, block, nothing, list, body_of, variables, index, indices}
 use Rattle.rules.specs.Check.{slow, verdict}
 use Rattle.rules.specs.Machine.{Slot, Env, State, Out, done, stop, Command, Found, found, fault, cell_event, noted, holding, after, and_then, inside, load, divided, eval, address, arguments, step_from, step, on_found, reading, next, both, in_order, choose, change, exchange, put, left_first, turns_of, counted, block_end, Calls, first_bound, exec}
 use Rattle.rules.specs.Run.{Given, Outcome, room_before, home, store_slots, last_of, env_of, calls_below, entry_refusal, execution, outcome_of, refused_run, run}
-use Rattle.laws.specs.Verdicts.{either, and_iff, or_cases, then_both, then_first, lowest-passed, member-here, member-there}
-use Rattle.laws.specs.Records.{Sound, sound}
+use Rattle.laws.specs.Verdicts.{either, then_both, then_first, lowest-passed}
+use Rattle.laws.specs.Records.{Sound, sound, body_statement}
 use Rattle.laws.specs.Growth.{last}
 use Rattle.laws.specs.EntriesForest.{occurrences-append}
 use Rattle.laws.specs.EntriesReadings.{Forest, most_reads, Brief, brief_bodies}
@@ -198,12 +196,6 @@ module _ (h : Header) (s : Parts) (F : Forest h s) (homes : Env) where
 
 -- ---- the theorem
 
-body_member : (s : List ℕ) (p count q : ℕ) → p ≤ q → q < p + count → T (member (procedure_of s q).body (bodies s p count))
-unfolding bodies
-body_member s p zero q l m = absurd (omega arith)
-body_member s p (suc count) q l m = dite (ℕ_discrete q p) (λ e. rw e (member-here (procedure_of s p).body (bodies s (suc p) count)))
-    (λ ne. member-there (procedure_of s q).body (procedure_of s p).body (bodies s (suc p) count) (body_member s (suc p) count q (omega arith) (omega arith)))
-
 -- The nodes of an accepted image form a forest whose bodies are statements.
 forest : (forbidden : Binary → Bool) (h : Header) (s : Parts) → Sound forbidden h s → Forest h s
 unfolding node_refusal tree_refusal reference_refusal place_refusal stands_in_tree
@@ -217,12 +209,7 @@ forest forbidden h s S =
       once = λ n l.
           let e = eqb→eq (occurrences n (starts ++ referred)) 1 (lowest-passed 6 (λ n. eqb (occurrences n (starts ++ referred)) 1) 0 h.nodes (lit< tt) t.0 n (omega arith) (omega arith)) in
           omega (arith, occurrences-append n starts referred);
-      body = λ p l.
-          let n = (procedure_of s.procedures p).body in
-          let stands = lowest-passed 6 (λ n. stands_in_tree starts (depths h s) (chained h s) n (node_of s.nodes n)) 0 h.nodes (lit< tt) t.1 n (omega arith) (omega (arith, (S.procedure p l).body)) in
-          let a = simp and_iff at stands in
-          ⊎_elim (λ out. absurd (T_not (member n starts) out (body_member s.procedures 0 h.procedures p (omega arith) (omega arith)))) (λ is. is)
-          (or_cases (not (member n starts)) (is_statement (node_of s.nodes n).kind) a.0);
+      body = body_statement S;
     }
 
 execution-short : (h : Header) (s : Parts) → Forest h s → (g : Given) → reach (last (execution h s g)) ≤ allowance * g.budget

@@ -5,12 +5,12 @@ use Rattle.std.proofs.Math.Logic.{dite}
 use Rattle.std.proofs.Math.Decide.{ℕ_discrete}
 use Rattle.std.proofs.Math.Dec.{not_T}
 use Rattle.rules.specs.Words.{Binary}
-use Rattle.rules.specs.Image.{Header, header_of, Parts, part, parts_of, Procedure, procedure_of, variable_of, is_array, is_constant}
+use Rattle.rules.specs.Image.{Header, header_of, Parts, part, parts_of, Procedure, procedure_of, variable_of, node_of, is_array, is_constant, is_statement}
 use Rattle.rules.specs.Form.{given, format_refusal, counts_fit, parts_follow, layout_refusal, shared_before, procedure_fits, procedure_refusal, owner, is_parameter, extra_fits, size_fits, variable_fits, variable_refusal, node_refusal}
-use Rattle.rules.specs.Tree.{body_of, tree_refusal}
+use Rattle.rules.specs.Tree.{bodies, member, reference_refusal, depths, chained, stands_in_tree, place_refusal, body_of, tree_refusal}
 use Rattle.rules.specs.Walk.{type_of, body_refusal, walk_refusal}
 use Rattle.rules.specs.Check.{form_refusal, verdict_for}
-use Rattle.laws.specs.Verdicts.{Accepted, and_iff, or_cases, given_holds, then_both, lowest-passed, search_is}
+use Rattle.laws.specs.Verdicts.{Accepted, and_iff, or_cases, given_holds, then_both, lowest-passed, search_is, member-here, member-there}
 
 -- The procedure's own names, and those of them that have one cell: scalars and counters.
 abbrev pub Own : Procedure → ℕ → Type 0
@@ -203,3 +203,22 @@ sound forbidden image e =
       variable = typed (header_of image) (parts_of image) f.0;
       walked = λ p l. walk_each forbidden (header_of image) (parts_of image) 0 (header_of image).procedures c.1 p (omega arith) (omega arith);
     }
+
+-- A procedure's body is one of the bodies.
+pub body_member : (s : List ℕ) (p count q : ℕ) → p ≤ q → q < p + count → T (member (procedure_of s q).body (bodies s p count))
+unfolding bodies
+body_member s p zero q l m = absurd (omega arith)
+body_member s p (suc count) q l m = dite (ℕ_discrete q p) (λ e. rw e (member-here (procedure_of s p).body (bodies s (suc p) count)))
+    (λ ne. member-there (procedure_of s q).body (procedure_of s p).body (bodies s (suc p) count) (body_member s (suc p) count q (omega arith) (omega arith)))
+
+-- "a body that is no statement" is refused.
+pub body_statement : {forbidden : Binary → Bool} {h : Header} {s : Parts} → Sound forbidden h s → (p : ℕ) → p < h.procedures → T (is_statement (node_of s.nodes (procedure_of s.procedures p).body).kind)
+unfolding tree_refusal place_refusal stands_in_tree
+body_statement {h = h} {s = s} S p l =
+    let starts = bodies s.procedures 0 h.procedures in
+    let n = (procedure_of s.procedures p).body in
+    let t = then_both (reference_refusal h s) (place_refusal h s) S.tree in
+    let stands = lowest-passed 6 (λ n. stands_in_tree starts (depths h s) (chained h s) n (node_of s.nodes n)) 0 h.nodes (lit< tt) t.1 n (omega arith) (omega (arith, (S.procedure p l).body)) in
+    let a = simp and_iff at stands in
+    ⊎_elim (λ out. absurd (T_not (member n starts) out (body_member s.procedures 0 h.procedures p (omega arith) (omega arith)))) (λ is. is)
+    (or_cases (not (member n starts)) (is_statement (node_of s.nodes n).kind) a.0)

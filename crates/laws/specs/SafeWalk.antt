@@ -1,6 +1,6 @@
 -- An accepted walk of a plain tree: the tree keeps the secrecy rules.
 -- Every operator that divides must be in the set that is forbidden on secrets.
-use Rattle.std.specs.Prelude.{ℕ, suc, ◌+◌, ◌<◌, ◌≡◌, Bool, true, false, ◌&&◌, ◌||◌, ◌↔◌, length, eqb}
+use Rattle.std.specs.Prelude.{ℕ, suc, ◌+◌, ◌<◌, ◌≡◌, Bool, true, false, ◌&&◌, ◌||◌, length, eqb}
 use mathlib.Core.List.{List, [], ◌∷◌, ◌++◌}
 use Rattle.std.proofs.Common.{ap, eqb→eq, lit<}
 use Rattle.std.proofs.Math.Bool.{not}
@@ -9,17 +9,13 @@ use native.Mathlib.Omega.{arith}
 use Rattle.std.proofs.Math.Dec.{T, leb→le, ltb→lt}
 use Rattle.rules.specs.Words.{Binary, divides}
 use Rattle.rules.specs.Image.{Header, Parts, Procedure, procedure_of, Variable, is_array, is_constant, is_counter, is_secret}
-use Rattle.rules.specs.Form.{Verdict, given, ◌then◌}
+use Rattle.rules.specs.Form.{given}
 use Rattle.rules.specs.Tree.{member, Expr, number, constant, variable, element, size, binary, unary, LValue, whole, entry, Stmt, empty, update, swap, conditional_swap, branch, loop, call, block, nothing, list, range, root}
 use Rattle.rules.specs.Walk.{every, type_of, secret, secret_root, passes_array, named, element_refusal, expr_refusal, target_refusal, argument_refusal, arguments_refusal, declarable, same_type, arguments_fit, call_fits, stmt_refusal, body_refusal}
-use Rattle.laws.specs.Verdicts.{Accepted, and_iff, and_left, nor_left, nor_right, same-equal, unequal_test, given-passed, given_holds, then_both, then_accepted, then_first, member-cases, append_cases, range_inside, every-each}
+use Rattle.laws.specs.Verdicts.{Accepted, and_iff, and_left, nor_left, nor_right, same-equal, unequal_test, given-passed, given_holds, then_both, then_iff, then_first, member-cases, append_cases, range_inside, every-each}
 use Rattle.laws.specs.Records.{Own, Single, Placed, Typed}
 use Rattle.laws.specs.SecrecyRules.{secret_name, SafeExpr, SafeIndex, SafeTarget, SafeArguments, SafeStmt}
 use Rattle.laws.specs.PlainTrees.{Safe, PlainExpr, PlainLValue, PlainArguments, PlainStmt}
-
--- `simp then_iff at e` takes a whole chain apart.
-then_iff : (v w : Verdict) → Accepted (v then w) ↔ (Accepted v × Accepted w)
-then_iff v w = (then_both v w, (λ p. then_accepted v w p.0 p.1))
 
 -- A refusal of a && not b that was not given.
 without : (a b : Bool) → T (not (a && not b)) → T (not b) → T (not a)

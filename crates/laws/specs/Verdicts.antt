@@ -134,6 +134,10 @@ then_passed v w e = rw (is_true (eqb v.number 0) (equal_test v.number 0 e))
 pub then_accepted : (v w : Verdict) → Accepted v → Accepted w → Accepted (v then w)
 then_accepted v w e f = ap (λ (u : Verdict). u.number) (then_passed v w e) ∙ f
 
+-- `simp then_iff at e` takes a whole chain apart.
+pub then_iff : (v w : Verdict) → Accepted (v then w) ↔ (Accepted v × Accepted w)
+then_iff v w = (then_both v w, (λ p. then_accepted v w p.0 p.1))
+
 -- ---- the lowest place
 
 pub search-from : (passes : ℕ → Bool) (i count : ℕ) → i ≤ search passes i count

@@ -1,4 +1,7 @@
 // Sets of names, and the names that an expression or a statement holds.
+// That a node, an L-value or a chain is known (`Known`, `KnownNaming`, `KnownChain`) stands in each clause: it is of a number and of the nodes
+// beside it. As the invariant of a type of both it would have to be shown wherever a number is read out of a record, and a clause that
+// says `Known is_expression nodes.now n` would name two fields of that type for it.
 #![tactic(auto)]
 
 mod marks;

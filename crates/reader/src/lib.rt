@@ -51,7 +51,8 @@ impl<'a> Reader<'a> {
         }
     }
 
-    // The four parts, each from its offset to the next one's, and the last to the total.
+    // The four parts, each from its offset to the next one's, and the last to the total. By the held offsets, which need not be those of the
+    // image, as the clauses say (`parts_by`); `records::parts_of` goes by the image's own.
     fn parts(self) -> Parts<'a>
         ensures { as_parts result ≡ parts_by self.entry.image.now self.entry.offsets }
     {

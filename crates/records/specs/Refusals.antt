@@ -68,6 +68,11 @@ pub then-stops : (r : Refusal) (v w : verdict.Verdict) → as_verdict (Err r) �
 unfolding ◌then◌
 then-stops r v w e = rw (← e) (rw (counted r.rule))
 
+-- What follows a test that accepts decides.
+pub then-on : {v w x : verdict.Verdict} → accepted ≡ v → x ≡ w → x ≡ v then w
+unfolding ◌then◌
+then-on e f = rw (← e) f
+
 pub then-goes : (x : ⊤) (v w : verdict.Verdict) → as_verdict (Ok x) ≡ v → v then w ≡ w
 unfolding ◌then◌
 then-goes x v w e = rw (← e)

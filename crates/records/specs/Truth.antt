@@ -1,7 +1,9 @@
--- Tests over numbers: two choices by one test, what is left past a number, and a test that holds in a whole range, computed once.
-use Rattle.std.specs.Prelude.{◌≡◌, refl, Bool, true, false, cond, ◌&&◌, ℕ, zero, suc, ◌+◌, ◌≤◌, ◌<◌, eqb}
-use Rattle.std.proofs.Common.{⊎_elim, arith}
+-- Tests over numbers: two choices by one test, what is left past a number, a test that holds in a whole range, computed once, and the library's range.
+use Rattle.std.specs.Prelude.{◌≡◌, refl, List, ◌∷◌, Bool, true, false, cond, ◌&&◌, ℕ, zero, suc, ◌+◌, ◌≤◌, ◌<◌, eqb}
+use Rattle.std.specs.List.{range_with_len}
+use Rattle.std.proofs.Common.{ap, ⊎_elim, arith}
 use Rattle.std.proofs.lemmas.Bool.{eqb-false, and_parts, cases_eq}
+use Rattle.rules.specs.Tree.{range}
 
 -- Two choices by one test are equal if their sides are, where they are taken.
 pub same-choice : {A : Type 0} (b : Bool) {x x' y y' : A} → (b ≡ true → x ≡ x') → (b ≡ false → y ≡ y') → cond b x y ≡ cond b x' y'
@@ -26,3 +28,9 @@ at_every test k zero x e low high = absurd (omega arith)
 at_every test k (suc count) x e low high =
     let p = and_parts (test k) (every test (suc k) count) e in
     ⊎_elim (λ (t : x ≡ k). rw t p.0) (λ (t : x ≡ k → ⊥). at_every test (suc k) count x p.1 (omega arith) (omega arith)) (cases_eq x k)
+
+-- The library's range is the rules'.
+pub range_same : (x count : ℕ) → range_with_len x count ≡ range x count
+unfolding range
+range_same x zero = refl
+range_same x (suc count) = let e : x + 1 ≡ suc x = omega arith in rw e (ap (λ (l : List ℕ). x ∷ l) (range_same (suc x) count))

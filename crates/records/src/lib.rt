@@ -23,8 +23,9 @@ pub use refusal::{Refusal, Rule, Verdict, numbers};
 pub use slices::{get_or, put};
 pub use slot::{NO_SLOT, Slot};
 
-// Header and parts are handed on side by side: as fields of one struct each would stand in the clauses behind its name, and none would
-// be shorter.
+// Header and parts are handed on side by side, as the rules take them: a clause that says `form_refusal (as_header h) (as_parts parts.now)`
+// would say `form_refusal (as_header image.now.header) (as_parts image.now.parts)` of one struct. What a checked layout says of a header,
+// `h.nodes ≤ 4096`, is asked where it is needed and is no invariant, since every image has a header.
 #[derive(Clone, Copy)]
 pub struct Header {
     pub format: u16,

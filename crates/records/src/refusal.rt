@@ -6,29 +6,29 @@ ghost use Rattle.records.specs.Refusals.{number_of, as_verdict};
 // The rules of both tables, in their order: 1 to 13 of an image, 19 to 28 of a run.
 #[derive(Clone, Copy, Debug, PartialEq, Eq)]
 pub enum Rule {
-    Format,
-    Layout,
-    ProcedureRecord,
-    VariableRecord,
-    NodeRecord,
-    Tree,
-    Scope,
-    Undeclared,
-    Kind,
-    Secrecy,
-    Clash,
-    Mismatch,
-    Slow,
-    Work,
-    Lengths,
-    WideCell,
-    Room,
-    Budget,
-    Index,
-    ZeroDivisor,
-    PublicLeft,
-    SecretLeft,
-    LoopBack,
+    Format = 1,
+    Layout = 2,
+    ProcedureRecord = 3,
+    VariableRecord = 4,
+    NodeRecord = 5,
+    Tree = 6,
+    Scope = 7,
+    Undeclared = 8,
+    Kind = 9,
+    Secrecy = 10,
+    Clash = 11,
+    Mismatch = 12,
+    Slow = 13,
+    Work = 19,
+    Lengths = 20,
+    WideCell = 21,
+    Room = 22,
+    Budget = 23,
+    Index = 24,
+    ZeroDivisor = 25,
+    PublicLeft = 26,
+    SecretLeft = 27,
+    LoopBack = 28,
 }
 
 // A broken rule and the place where it is broken: "a number and a place".
@@ -42,35 +42,11 @@ pub struct Refusal {
 pub type Verdict = Result<(), Refusal>;
 
 impl Rule {
-    // The number that the tables give the rule.
+    // The number that the tables give the rule: `as` reads the one that stands at it.
     pub fn number(self) -> u16
         ensures { result ≡ number_of self }
     {
-        match self {
-            Rule::Format => 1,
-            Rule::Layout => 2,
-            Rule::ProcedureRecord => 3,
-            Rule::VariableRecord => 4,
-            Rule::NodeRecord => 5,
-            Rule::Tree => 6,
-            Rule::Scope => 7,
-            Rule::Undeclared => 8,
-            Rule::Kind => 9,
-            Rule::Secrecy => 10,
-            Rule::Clash => 11,
-            Rule::Mismatch => 12,
-            Rule::Slow => 13,
-            Rule::Work => 19,
-            Rule::Lengths => 20,
-            Rule::WideCell => 21,
-            Rule::Room => 22,
-            Rule::Budget => 23,
-            Rule::Index => 24,
-            Rule::ZeroDivisor => 25,
-            Rule::PublicLeft => 26,
-            Rule::SecretLeft => 27,
-            Rule::LoopBack => 28,
-        }
+        self as u16
     }
 
     // The refusal by this rule at this place.

@@ -3,22 +3,18 @@
 use Prim.Native.Nat.{ℕ, ◌+◌, ◌≤◌}
 use mathlib.Core.List.{List, [], ◌∷◌, ◌++◌}
 use mathlib.Core.Bool.{Bool, not}
-use mathlib.Core.Logic.{⊎_elim, ◌↔◌}
+use mathlib.Core.Logic.{⊎_elim}
 use native.Mathlib.Omega.{arith}
 use lib.ListN.{length}
 use lib.Dec.{T, eqb→eq, leb→le, ltb→lt, lit<}
 use Rattle.rules.specs.Words.{Binary}
 use Rattle.rules.specs.Image.{Parts, Procedure, procedure_of, is_array}
-use Rattle.rules.specs.Form.{Verdict, given, ◌then◌}
+use Rattle.rules.specs.Form.{given}
 use Rattle.rules.specs.Tree.{member, Expr, number, constant, variable, element, size, binary, unary, LValue, whole, entry, Stmt, empty, update, swap, conditional_swap, branch, loop, call, block, nothing, list, range, declared}
 use Rattle.rules.specs.Walk.{every, type_of, named, element_refusal, expr_refusal, target_refusal, argument_refusal, arguments_refusal, declarable, call_fits, stmt_refusal, body_refusal}
-use Rattle.laws.specs.Verdicts.{Accepted, and_iff, given_holds, then_both, then_accepted, then_first, member-here, member-there, member-cases, append_cases, range_inside, every-each}
+use Rattle.laws.specs.Verdicts.{Accepted, and_iff, given_holds, then_both, then_iff, then_first, member-here, member-there, member-cases, append_cases, range_inside, every-each}
 use Rattle.expressions.specs.Names.{In, WithinE, WithinL, WithinLs, WithinXs, Within}
 use Rattle.executors.specs.World.{parameters_of}
-
--- `simp then_iff at e` takes a whole chain apart.
-then_iff : (v w : Verdict) → Accepted (v then w) ↔ (Accepted v × Accepted w)
-then_iff v w = (then_both v w, (λ p. then_accepted v w p.0 p.1))
 
 -- Each of a list of names is in the range.
 each_in : (lo hi : ℕ) (xs : List ℕ) → ((x : ℕ) → T (member x xs) → In lo hi x) → WithinXs lo hi xs

@@ -1,24 +1,24 @@
 -- What an accepted image is to the executors: its records fit, its bodies are statements that keep to their own names, its locals have
 -- good homes; and once both kinds of rows are set, the names of the last procedure live where its execution starts.
-use Prim.Native.Nat.{ℕ, zero, suc, ◌+◌, ◌-◌, ◌*◌, ◌≤◌, ◌<◌}
+use Prim.Native.Nat.{ℕ, ◌-◌, ◌*◌, ◌<◌}
 use mathlib.Core.Path.{◌≡◌, refl}
 use mathlib.Core.List.{List}
-use mathlib.Core.Bool.{true, not}
-use mathlib.Core.Logic.{⊎_elim, inl, dite}
+use mathlib.Core.Bool.{true}
+use mathlib.Core.Logic.{inl}
 use native.Mathlib.Omega.{arith}
-use native.Mathlib.Decide.{ℕ_discrete}
 use lib.ListN.{length}
-use lib.Dec.{T, T_not, lit<}
-use Rattle.rules.specs.Image.{Header, header_of, Parts, parts_of, procedure_of, node_of, is_statement}
+use lib.Dec.{lit<}
+use Rattle.rules.specs.Image.{Header, header_of, Parts, parts_of, procedure_of, node_of}
 use Rattle.rules.specs.Form.{format_refusal, layout_refusal, record_fits, node_refusal}
-use Rattle.rules.specs.Tree.{bodies, member, depths, chained, stands_in_tree, reference_refusal, place_refusal, tree_refusal, body_of}
+use Rattle.rules.specs.Tree.{body_of}
 use Rattle.rules.specs.Check.{slow, verdict_for, verdict}
 use Rattle.rules.specs.Machine.{Env}
 use Rattle.rules.specs.Run.{home, store_slots, env_of, last_of}
-use Rattle.laws.specs.Verdicts.{and_iff, or_cases, is_true, then_both, then_first, then_rest, lowest-passed, member-here, member-there}
+use Rattle.laws.specs.Verdicts.{is_true, then_first, then_rest, lowest-passed}
+use Rattle.laws.specs.Records as laws
 use Rattle.laws.specs.Records.{laid, part_long, Sound, sound, ranges_ordered}
-use Rattle.laws.specs.Cells.{room_grows}
 use Rattle.entry.proofs.Outcomes.{Entered, entered}
+use Rattle.entry.proofs.Names as names
 use Rattle.entry.proofs.Names.{rows_home, rows_starting, starting-good}
 use Rattle.expressions.specs.Relations.{Good}
 use Rattle.records.specs.Slots.{Table}
@@ -33,13 +33,6 @@ image_nodes image e =
     let L = laid (header_of image) (length image) (then_first (layout_refusal image) _ (then_rest (format_refusal image) _ e)) in
     let p = part_long image (header_of image).node_part (header_of image).constant_part (omega arith) in
     omega arith
-
--- A procedure's body is one of the bodies.
-body_member : (s : List ℕ) (p count q : ℕ) → p ≤ q → q < p + count → T (member (procedure_of s q).body (bodies s p count))
-unfolding bodies
-body_member s p zero q l m = absurd (omega arith)
-body_member s p (suc count) q l m = dite (ℕ_discrete q p) (λ e. rw e (member-here (procedure_of s p).body (bodies s (suc p) count)))
-    (λ ne. member-there (procedure_of s q).body (procedure_of s p).body (bodies s (suc p) count) (body_member s (suc p) count q (omega arith) (omega arith)))
 
 module _ {h : Header} {s : Parts} {works : ℕ} {lengths store : List ℕ} (R : Ready h s works lengths store) where
   pub keeps : Sound slow h s
@@ -59,25 +52,12 @@ module _ {h : Header} {s : Parts} {works : ℕ} {lengths store : List ℕ} (R : 
   unfoldable code : Code s.nodes
   code = record { header = h; long = nodes_long; few = keeps.few; narrow = keeps.narrow; fit = record_fits_lem }
 
-  -- "a body that is no statement" is refused.
-  body_class : (p : ℕ) → p < h.procedures → T (is_statement (node_of s.nodes (procedure_of s.procedures p).body).kind)
-  unfolding tree_refusal place_refusal stands_in_tree
-  body_class p l =
-      let starts = bodies s.procedures 0 h.procedures in
-      let n = (procedure_of s.procedures p).body in
-      let t = then_both (reference_refusal h s) (place_refusal h s) keeps.tree in
-      let stands = lowest-passed 6 (λ n. stands_in_tree starts (depths h s) (chained h s) n (node_of s.nodes n)) 0 h.nodes (lit< tt) t.1 n (omega arith) (omega (arith, (keeps.procedure p l).body)) in
-      let a = simp and_iff at stands in
-      ⊎_elim (λ out. absurd (T_not (member n starts) out (body_member s.procedures 0 h.procedures p (omega arith) (omega arith)))) (λ is. is)
-      (or_cases (not (member n starts)) (is_statement (node_of s.nodes n).kind) a.0)
-
   pub body_statement : (p : ℕ) → p < h.procedures → Statement s.nodes (procedure_of s.procedures p).body
   unfolding code
-  body_statement p l = record { code = code; inside = (keeps.procedure p l).body; classed = is_true _ (body_class p l) }
+  body_statement p l = record { code = code; inside = (keeps.procedure p l).body; classed = is_true _ (laws.body_statement keeps p l) }
 
   pub home-good : (y : ℕ) → y < h.variables → Good (home h s (length store) y)
-  unfolding home
-  home-good y l = record { some = (keeps.variable y l).some; most = (keeps.variable y l).word; placed = omega (arith, room_grows h s y h.variables l, inside.room) }
+  home-good y l = let g = names.home-good keeps inside y l in record { some = g.0; most = g.1; placed = g.2 }
 
   -- ---- the program of the executors
 

@@ -1,5 +1,6 @@
 // The run of an image: everything is cleared first, then checked, then run in the work words; the store changes only where nothing
 // was refused, and the work words are 0 afterwards, whatever the answer is.
+// `Statement`, `Bodies` and `SameRun` stand in the clauses as in executors, for the reasons given there.
 #![tactic(auto)]
 
 ghost use Rattle.std.specs.Prelude.{◌≡◌, ◌^◌, ◌<◌, ◌≤◌, length};
@@ -33,7 +34,8 @@ fn placed(h: Header, parts: &Parts, lengths: &[u64], stored: u16, slots: &mut [S
     total
 }
 
-// Node n of procedure p over the cells of the run.
+// Node n of procedure p over the cells of the run. Slices go one by one as far as here, as `run` has them from C: were `Memory` made over a
+// part of the work words where that is cut, the proof would lose what the cells are at the end.
 fn executed(
     parts: &Parts,
     inverse: bool,
@@ -55,8 +57,8 @@ fn executed(
     executors::statement(&mut memory, run, inverse, p, n)
 }
 
-// The last procedure's body over the first work words, which hold the store and the locals. The store has at most 4,096 cells by 22, so
-// that its length is not cut by `as`.
+// The last procedure's body over the first work words, which hold the store and the locals; slices one by one, as in `executed`. The
+// store has at most 4,096 cells by 22, so that its length is not cut by `as`.
 fn worked(
     h: Header,
     parts: &Parts,
@@ -90,7 +92,7 @@ fn finished(store: &mut [u64], words: &mut [u64], verdict: Verdict)
     entry::work::clear(words);
 }
 
-// The run as far as it is let: the check's refusals come first, then 19 to 22, then the execution.
+// The run as far as it is let: the check's refusals come first, then 19 to 22, then the execution. Slices one by one, as in `executed`.
 fn ran(
     image: &[u8],
     inverse: bool,

@@ -32,6 +32,7 @@ impl Head {
     }
 
     // Whether a run can be lent what its head asks for. More is let through than document 01 lets a run have, so that its refusals are met.
+    // `Fits` is no invariant of a head, and stands in the clauses: a stream can have any.
     #[tactic(auto, unfolding(crate::specs::Heads::fitting))]
     fn fits(&self) -> bool
         ensures same { result ≡ fitting self.now }

@@ -81,7 +81,7 @@ impl<'a> Run<'a> {
     }
 }
 
-// The lines of all runs, up to the stream's end.
+// The lines of all runs, up to the stream's end. Nothing is counted: each head says where the next run begins.
 fn lines(stream: &[u8]) -> Result<(), BadStream> {
     let mut rest = stream;
     while let Some(head) = head::next_of(rest)? {

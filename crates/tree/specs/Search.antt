@@ -1,12 +1,12 @@
 -- A search for the lowest place: what it finds, what it says where it passes all, and that equal tests search alike.
 use Rattle.std.specs.Prelude.{◌≡◌, refl, Bool, true, false, cond, eqb, Option, Some, None, unwrap_or, is_some, MatchOption}
 use Rattle.std.proofs.Math.Path.{sym}
-use Rattle.std.proofs.Common.{zero-add, ap, ◌∙◌, ⊎_elim}
-use Prim.Native.Nat.{ℕ, zero, suc, ◌+◌, ◌≤◌, ◌<◌}
+use Rattle.std.proofs.Common.{ap, ◌∙◌, ⊎_elim}
+use Prim.Native.Nat.{ℕ, zero, suc, ◌+◌, ◌-◌, ◌≤◌, ◌<◌}
 use native.Mathlib.Omega.{arith}
 use borrow.Author.Tests.{ne_eqb, eq-eqb, eqb-true}
 use Rattle.std.proofs.lemmas.Bool.{cases_Bool, cases_eq, cond_both}
-use Rattle.rules.specs.Form.{Verdict, accepted, ◌then◌, given, search, lowest}
+use Rattle.rules.specs.Form.{given, search, lowest}
 
 -- What a search finds: the lowest place that fails the test, or nothing where it ends behind them all.
 unfoldable pub found : (ℕ → Bool) → ℕ → ℕ → Option ℕ
@@ -57,12 +57,12 @@ module _ (passes : ℕ → Bool) (i count end : ℕ) (last : i + count ≡ end) 
   found-by None p = found_none p
   found-by (Some n) p = found_here n p.0 p.1 p.3 p.2
 
--- The place that a search ends at, where nothing is the end.
-pub end-of : (passes : ℕ → Bool) (count : ℕ) (place : Option ℕ) → place ≡ found passes 0 count → unwrap_or place count ≡ search passes 0 count
+-- The place that was found, or the end, is where the search ends.
+pub found-or_end : (passes : ℕ → Bool) (i n : ℕ) → i ≤ n → unwrap_or (found passes i (n - i)) n ≡ search passes i (n - i)
 unfolding found
-end-of passes count place e =
-    rw e (cond_both _ None (Some (search passes 0 count)) (λ o. unwrap_or o count ≡ search passes 0 count)
-    (λ t. sym (eqb-true (search passes 0 count) (0 + count) t ∙ zero-add count)) (λ f. refl))
+found-or_end passes i n l =
+    let place = search passes i (n - i) in
+    cond_both _ None (Some place) (λ o. unwrap_or o n ≡ place) (λ t. let last : place ≡ i + (n - i) = eqb-true _ _ t in omega arith) (λ f. refl)
 
 -- The verdict of a search that found this.
 pub lowest-from : (number : ℕ) (passes : ℕ → Bool) (i n : ℕ) (place : Option ℕ) → place ≡ found passes i n → given number (unwrap_or place 0) (is_some place) ≡ lowest number passes i n
@@ -81,8 +81,3 @@ search-same p q i (suc count) h = rw (h i (omega arith) (omega arith)) (ap (λ x
 pub found-same : (p q : ℕ → Bool) (i count : ℕ) → ((k : ℕ) → i ≤ k → k < i + count → p k ≡ q k) → found p i count ≡ found q i count
 unfolding found
 found-same p q i count h = rw (search-same p q i count h)
-
--- What follows a test that accepts decides.
-pub then-on : (v w x : Verdict) → accepted ≡ v → x ≡ w → x ≡ v then w
-unfolding ◌then◌
-then-on v w x e is = rw (← e) is

@@ -14,6 +14,7 @@ use Rattle.rules.specs.Tree.{root, reading_at}
 use Rattle.rules.specs.Walk.{type_of, same_type, same, passes_array, secret, named, element_refusal, expr_refusal, target_refusal, argument_refusal}
 use Rattle.rules.specs.Check.{slow}
 use Rattle.records.specs.Refusals.{number_of, as_verdict, then-stops}
+pub use Rattle.records.specs.Refusals.{then-on}
 use Rattle.records.specs.LValues.{node_of_lvalue, root_of, index_of}
 use Rattle.records.specs.Cases.{place_of, value_of}
 use Rattle.records.specs.declared.refusal.Refusal.{Refusal}
@@ -69,10 +70,6 @@ module _ {x : form.Verdict} (y : form.Verdict) where
 -- The same of a refusal by itself.
 pub stops-on : (e : Refusal) {x : form.Verdict} (y : form.Verdict) → refused (number_of e.rule) e.place ≡ x → refused (number_of e.rule) e.place ≡ (x then y)
 stops-on e {x} y g = then-stops e x y g
-
-pub goes : {w x y : form.Verdict} → accepted ≡ x → w ≡ y → w ≡ (x then y)
-unfolding ◌then◌
-goes e f = rw (← e) f
 
 -- ---- results
 

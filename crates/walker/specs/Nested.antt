@@ -1,5 +1,5 @@
 -- The statements that hold others: if, for, block, list.
-use Prim.Native.Nat.{ℕ, zero, suc, ◌+◌, ◌≤◌, ◌<◌}
+use Prim.Native.Nat.{ℕ, ◌+◌, ◌≤◌, ◌<◌}
 use Rattle.std.specs.Prelude.{◌≡◌, List, [], ◌∷◌, ◌++◌, Bool, true, false, not, ◌&&◌, ◌||◌, ◌⊎◌, leb, ltb, Result, Ok, Err, ⊤, MatchBool, length}
 use Rattle.std.proofs.Math.Path.{refl}
 use Rattle.std.proofs.Math.Bool.{and_assoc}
@@ -10,6 +10,7 @@ use Rattle.std.proofs.lemmas.Result.{err_from_is_err_and}
 use Rattle.std.specs.Ordering.{is_le, is_lt, nat_cmp}
 use Rattle.std.proofs.lemmas.Bool.Decides.{nat_tests}
 use Rattle.std.specs.List.{range_with_len, AllWithin, HoldsAt}
+use Rattle.records.specs.Truth.{range_same}
 use Rattle.std.proofs.lemmas.List.FromFn.{length-range_with_len, get_or-range_with_len}
 use Rattle.std.proofs.lemmas.List.Recursion.{and_from_places, and_fails_at}
 use Rattle.rules.specs.Image.{missing, Header, Parts, procedure_of, node_of, is_counter, is_statement, is_expression}
@@ -34,7 +35,7 @@ use Rattle.names.specs.Statements.{begun}
 use Rattle.names.specs.declared.marks.Names.{Names}
 use Rattle.walker.specs.declared.Walk.{Walk}
 use Rattle.walker.specs.Simple.{Callable, CallAt, call_at}
-use Rattle.walker.specs.Judge.{Scope, Judges, goes, row, refuses_with}
+use Rattle.walker.specs.Judge.{Scope, Judges, then-on, row, refuses_with}
 
 -- ---- own rules
 
@@ -97,7 +98,7 @@ module _ {w : Walk} {scope before : Names} {s : Parts} where
       → as_verdict r ≡ (given 10 n hidden then given 11 n (share (variables e) (changed y ++ changed z))) → Walked w scope before after s (tree.branch n e y z) r
   unfolding stmt_refusal declared
   if_goes {y = y} {z = z} {after = after} c f k q = record {
-    is = λ Γ D g. let j = c Γ g.names in goes j.is (goes (f.is Γ D g) (goes (k.is Γ (declared y ++ D) (later g f)) (q ∙ rw (j.type _ refl))));
+    is = λ Γ D g. let j = c Γ g.names in then-on j.is (then-on (f.is Γ D g) (then-on (k.is Γ (declared y ++ D) (later g f)) (q ∙ rw (j.type _ refl))));
     left = λ Γ D g _. same-marks after (declared z ++ (declared y ++ D)) (k.left Γ (declared y ++ D) (later g f) refl) ((declared y ++ declared z) ++ D) (λ x. member-regroup x (declared y) (declared z) D);
   }
 
@@ -111,7 +112,7 @@ module _ {w : Walk} {scope before : Names} {s : Parts} where
     is = λ Γ D g.
         let p = c Γ g.names in
         let p' = d Γ g.names in
-        goes p.is (goes p'.is (row _ _ _ (goes (k Γ D g) (goes (f.is (x ∷ Γ) (x ∷ D) (inside g m o)) (q ∙ rw (p.type _ refl, p'.type _ refl))))));
+        then-on p.is (then-on p'.is (row _ _ _ (then-on (k Γ D g) (then-on (f.is (x ∷ Γ) (x ∷ D) (inside g m o)) (q ∙ rw (p.type _ refl, p'.type _ refl))))));
     left = λ Γ D g _. same-marks after (declared t ++ (x ∷ D)) (f.left (x ∷ Γ) (x ∷ D) (inside g m o) refl) ((x ∷ declared t) ++ D) (λ y. member-regroup y (x ∷ []) (declared t) D);
   }
 
@@ -121,7 +122,7 @@ module _ {w : Walk} {scope before : Names} {s : Parts} where
       → Adds scope inner xs → Adds before between xs → Walked w inner between after s t r → Walked w scope before after s (tree.block n xs t) r
   unfolding stmt_refusal declared
   block_goes {xs = xs} {t = t} {after = after} k m o f = record {
-    is = λ Γ D g. row _ _ _ (goes (k Γ D g) (f.is (xs ++ Γ) (xs ++ D) (inside g m o)));
+    is = λ Γ D g. row _ _ _ (then-on (k Γ D g) (f.is (xs ++ Γ) (xs ++ D) (inside g m o)));
     left = λ Γ D g q. same-marks after (declared t ++ (xs ++ D)) (f.left (xs ++ Γ) (xs ++ D) (inside g m o) q) ((xs ++ declared t) ++ D) (λ y. member-regroup y xs (declared t) D);
   }
 
@@ -133,7 +134,7 @@ module _ {w : Walk} {scope before : Names} {s : Parts} where
       → Walked w scope before after s (tree.list t u) r
   unfolding stmt_refusal declared
   list_goes {t} {u} {after = after} f k = record {
-    is = λ Γ D g. goes (f.is Γ D g) (k.is Γ (declared t ++ D) (later g f));
+    is = λ Γ D g. then-on (f.is Γ D g) (k.is Γ (declared t ++ D) (later g f));
     left = λ Γ D g q. same-marks after (declared u ++ (declared t ++ D)) (k.left Γ (declared t ++ D) (later g f) q) ((declared t ++ declared u) ++ D) (λ y. member-regroup y (declared t) (declared u) D);
   }
 
@@ -141,11 +142,6 @@ module _ {w : Walk} {scope before : Names} {s : Parts} where
 
 pub read_own : (s : Parts) {ps : List ℕ} → s.procedures ≡ ps → (p : ℕ) {q : Procedure} → as_procedure q ≡ procedure_of ps p → as_procedure q ≡ procedure_of s.procedures p
 read_own s own p e = e ∙ ap (λ (z : List ℕ). procedure_of z p) (sym own)
-
-range_same : (x count : ℕ) → range_with_len x count ≡ range x count
-unfolding range
-range_same x zero = refl
-range_same x (suc count) = let e : x + 1 ≡ suc x = omega arith in rw e (ap (λ (l : List ℕ). x ∷ l) (range_same (suc x) count))
 
 -- What the library's test of every name of a range says, where it is asked of names that there can be.
 pub every_is : (holds : ℕ → Bool) (x count : ℕ) (r : Bool) → x + count ≤ most

@@ -58,6 +58,7 @@ impl<'a> Walk<'a> {
     }
 
     // 12: "the called procedure's number is not smaller than the caller's; argument count differs; secrecy, size, ..".
+    // The end of the parameters is a name, a u16, as `Callable` says; `Procedure::locals` is wider.
     fn call_fits(&self, q: u16, argument: u16) -> bool
         requires { (KnownChain is_lvalue (nodes_of self.now) argument) × (Callable self.now q) }
         ensures { AsArguments (nodes_of self.now) argument

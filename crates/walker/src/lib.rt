@@ -1,5 +1,6 @@
 // Verdicts 7 and 9 to 13: the walk of a procedure.
-// An argument of `given` joins its parts by `&` and `|`: they are at hand, and a branch would leave nothing out.
+// A test that is handed on joins its parts by `&` and `|`: by `&&` and `||` a proof has the branches, and no equation of the joined value.
+// That a node is `Walkable` stands in each clause, as `Known` does in names, for the same reason.
 #![tactic(auto)]
 
 mod calls;
@@ -25,7 +26,8 @@ pub struct Walk<'a> {
 }
 
 impl<'a> Walk<'a> {
-    // The statement at node n. Takes the names that it declares in.
+    // The statement at node n. Takes the names that it declares in. Scope and taken names go side by side, here and below: a for and a
+    // block hand on a larger scope with the same taken names, so that a struct of both would be made anew there.
     #[cycle(block_for_statement_if_statement_list_statement)]
     pub fn statement(&self, scope: &Names, taken: &mut Names, n: u16) -> Verdict
         requires { Walkable self.now n }

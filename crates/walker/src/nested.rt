@@ -20,7 +20,8 @@ fn can_declare(q: Procedure, taken: &Names, x: u16) -> bool
     (q.locals()..q.end()).contains(&u32::from(x)) && !taken.contains(x)
 }
 
-// 7 of the count names from x on.
+// 7 of the count names from x on. That they are names, `x + count ≤ most`, is asked here and below, and by `Names::insert_range`: it is what a
+// block's two fields mean together, and they are fields of a record.
 fn can_declare_all(q: Procedure, taken: &Names, x: u16, count: u16) -> bool
     requires { x + count ≤ most }
     ensures { (D : List ℕ) → Marks taken.now D → result ≡ every (declarable (as_procedure q) D) (range x count) }

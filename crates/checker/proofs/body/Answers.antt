@@ -5,8 +5,7 @@ use Rattle.rules.specs.Walk.{body_refusal, undeclared_refusal}
 use Rattle.rules.specs.Tree.{body_of}
 use Rattle.records.specs.Records.{as_header}
 use Rattle.records.specs.Parts.{as_parts}
-use Rattle.records.specs.Refusals.{then-stops}
-use Rattle.tree.specs.Search.{then-on}
+use Rattle.records.specs.Refusals.{then-stops, then-on}
 use Rattle.checker.specs.Prepared.{ranged, standing_body, walked_is, declared-marks}
 use Rattle.checker.proofs.body.Goals as goal
 
@@ -35,5 +34,5 @@ unfolding body_refusal
 returns c =
     let walked = walked_is c.requires.0 c.requires.1 c.procedure_at-q.ensures c.new-scope.ensures c.insert_range.ensures c.new-taken.ensures (c.statement.ensures (as_header c.args.h) (as_parts c.args.parts.now)) in
     let marks = declared-marks c.requires.0 c.requires.1 c.procedure_at-q.ensures c.new-scope.ensures c.insert_range.ensures c.new-taken.ensures (c.statement.ensures (as_header c.args.h) (as_parts c.args.parts.now)) c.in_ok-statement.was in
-    then-on _ _ _ (rw c.in_ok-statement.was at walked)
+    then-on (rw c.in_ok-statement.was at walked)
     (c.undeclared.ensures _ marks ∙ ap (λ (q : image.Procedure). undeclared_refusal q (body_of (as_header c.args.h) (as_parts c.args.parts.now) c.args.p)) c.procedure_at-q.ensures)

@@ -5,8 +5,7 @@ use Rattle.rules.specs.Form as form
 use Rattle.rules.specs.Walk.{walk_refusal}
 use Rattle.rules.specs.Check.{slow}
 use Rattle.records.specs.Parts.{as_parts}
-use Rattle.records.specs.Refusals.{then-stops}
-use Rattle.tree.specs.Search.{then-on}
+use Rattle.records.specs.Refusals.{then-stops, then-on}
 use Rattle.form.specs.Formed.{formed}
 use Rattle.checker.specs.Prepared.{prepared_by, verdict-is}
 use Rattle.checker.proofs.check.Goals as goal
@@ -21,7 +20,7 @@ walk-requires c = prepared_by c.args.image.now (formed c.args.image.now (sym (ap
 
 pub returns : goal.returns
 returns c =
-    then-on _ _ _ c.in_ok-form.ensures
+    then-on c.in_ok-form.ensures
     (c.walk.ensures
     ∙ ap (λ (h : image.Header). walk_refusal slow h (as_parts c.parts_of.result) 0 h.procedures) c.header_of.ensures
     ∙ ap (λ (s : image.Parts). walk_refusal slow (image.header_of c.args.image.now) s 0 (image.header_of c.args.image.now).procedures) c.parts_of.ensures)

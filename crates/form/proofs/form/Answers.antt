@@ -5,8 +5,7 @@ use Rattle.rules.specs.Form.{Verdict}
 use Rattle.rules.specs.Check.{form_refusal}
 use Rattle.laws.specs.Records.{laid}
 use Rattle.records.specs.Parts.{as_parts}
-use Rattle.records.specs.Refusals.{then-stops}
-use Rattle.tree.specs.Search.{then-on}
+use Rattle.records.specs.Refusals.{then-stops, then-on}
 use Rattle.form.specs.Tests.{layout_is}
 use Rattle.form.proofs.form.Goals as goal
 
@@ -16,15 +15,15 @@ returns-in_err-format c = search (rules, then-stops)
 pub returns-in_err-layout : goal.returns-in_err-layout
 returns-in_err-layout c =
     let e = layout_is c.args.image.now _ c.header_of-h.ensures _ c.in_err-layout.ensures in
-    then-on _ _ _ c.in_ok-format.ensures (search (rules, then-stops))
+    then-on c.in_ok-format.ensures (search (rules, then-stops))
 
 pub parts_form-requires : goal.parts_form-requires
 parts_form-requires c = (laid _ _ (ap (λ (v : Verdict). v.number) (sym c.in_ok-layout.ensures))).few_nodes
 
 pub returns : goal.returns
 returns c =
-    then-on _ _ _ c.in_ok-format.ensures
-    (then-on _ _ _ (layout_is c.args.image.now _ c.header_of-h.ensures _ c.in_ok-layout.ensures)
+    then-on c.in_ok-format.ensures
+    (then-on (layout_is c.args.image.now _ c.header_of-h.ensures _ c.in_ok-layout.ensures)
     (c.parts_form.ensures
     ∙ ap (λ (h : image.Header). form_refusal h (as_parts c.parts_of.result)) c.header_of-h.ensures
     ∙ ap (λ (s : image.Parts). form_refusal (image.header_of c.args.image.now) s) c.parts_of.ensures))

@@ -1,6 +1,6 @@
 -- Along the chain, each by itself.
 use Rattle.rules.specs.Walk.{arguments_refusal}
-use Rattle.walker.specs.Judge.{stops, goes, place_refusal}
+use Rattle.walker.specs.Judge.{stops, then-on, place_refusal}
 use Rattle.walker.proofs.Walk.+arguments.Goals as goal
 
 pub returns-in_default : goal.returns-in_default
@@ -19,4 +19,4 @@ unfolding arguments_refusal place_refusal
 returns t c =
     λ h s k Γ sc.
     let g = c.in-Some.ensures.head h s k in
-    rw g.is (goes (c.in_ok-place.ensures h s g.naming Γ sc) (c.arguments.ensures h s g.rest Γ sc))
+    rw g.is (then-on (c.in_ok-place.ensures h s g.naming Γ sc) (c.arguments.ensures h s g.rest Γ sc))

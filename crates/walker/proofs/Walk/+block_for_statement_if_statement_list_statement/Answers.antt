@@ -8,7 +8,7 @@ use Rattle.names.specs.Class.{no_statement}
 use Rattle.names.specs.Sound.{means, refers, standing_child, never_refused, statement-classed, name_small, known_child, behind}
 use Rattle.names.specs.Chains.{chain_standing, no_statements, first_statement_lem, later_statements}
 use Rattle.names.specs.Statements.{begun, begun-behind}
-use Rattle.walker.specs.Judge.{stops-on, goes, row}
+use Rattle.walker.specs.Judge.{stops-on, then-on, row}
 use Rattle.walker.specs.Simple.{call_at, call_means}
 use Rattle.walker.specs.Nested.{known_of, walkable_next, walkable_ahead, walkable_child, walkable_begun, call_ready, range_small, later, inside, walked_stops, walked_plain, if_goes, for_goes, block_goes, list_none, list_goes}
 use Rattle.walker.proofs.Walk.+block_for_statement_if_statement_list_statement.Goals as goal
@@ -60,7 +60,7 @@ for_statement-returns-in_err-b t c =
     rw (means st d)
     (walked_stops _ _ c.from_residual-in_err-b.ensures.1
     (λ Γ D g.
-    goes (c.in_ok-a.ensures h s (standing_child st (refers st d).1.0) Γ g.names).is (stops-on _ _ (c.in_err-b.ensures h s (standing_child st (refers st d).1.1.0) Γ g.names).is)))
+    then-on (c.in_ok-a.ensures h s (standing_child st (refers st d).1.0) Γ g.names).is (stops-on _ _ (c.in_err-b.ensures h s (standing_child st (refers st d).1.1.0) Γ g.names).is)))
 
 pub for_statement-returns-in_err-counter_rules : goal.for_statement-returns-in_err-counter_rules
 unfolding stmt_refusal
@@ -70,8 +70,8 @@ for_statement-returns-in_err-counter_rules t c =
     rw (means st d)
     (walked_stops _ _ c.from_residual-in_err-counter_rules.ensures.1
     (λ Γ D g.
-    goes (c.in_ok-a.ensures h s (standing_child st (refers st d).1.0) Γ g.names).is
-    (goes (c.in_ok-b.ensures h s (standing_child st (refers st d).1.1.0) Γ g.names).is
+    then-on (c.in_ok-a.ensures h s (standing_child st (refers st d).1.0) Γ g.names).is
+    (then-on (c.in_ok-b.ensures h s (standing_child st (refers st d).1.1.0) Γ g.names).is
     (row _ _ _ (stops-on _ _ (c.in_err-counter_rules.ensures.is s D g.names.own g.own g.marks (name_small st (refers st d).0)))))))
 
 pub for_statement-statement-requires : goal.for_statement-statement-requires
@@ -86,10 +86,10 @@ for_statement-returns-in_err-statement t c =
     rw (means st d)
     (walked_stops _ _ c.from_residual-in_err-statement.ensures.1
     (λ Γ D g.
-    goes (c.in_ok-a.ensures h s (standing_child st (refers st d).1.0) Γ g.names).is
-    (goes (c.in_ok-b.ensures h s (standing_child st (refers st d).1.1.0) Γ g.names).is
+    then-on (c.in_ok-a.ensures h s (standing_child st (refers st d).1.0) Γ g.names).is
+    (then-on (c.in_ok-b.ensures h s (standing_child st (refers st d).1.1.0) Γ g.names).is
     (row _ _ _
-    (goes (c.in_ok-counter_rules.ensures.is s D g.names.own g.own g.marks l)
+    (then-on (c.in_ok-counter_rules.ensures.is s D g.names.own g.own g.marks l)
     (stops-on _ _ ((c.in_err-statement.ensures h s (standing_child st (refers st d).1.1.1)).is _ _ (inside g (c.insert.ensures l) (c.insert-2.ensures l)))))))))
 
 pub for_statement-for_rules-requires : goal.for_statement-for_rules-requires
@@ -128,7 +128,7 @@ if_statement-returns-in_err-statement t c =
     rw (means st d)
     (walked_stops _ _ c.from_residual-in_err-statement.ensures.1
     (λ Γ D g.
-    goes (c.in_ok-secret.ensures h s (standing_child st (refers st d).0) Γ g.names).is (stops-on _ _ ((c.in_err-statement.ensures h s (standing_child st (refers st d).1.0)).is Γ D g))))
+    then-on (c.in_ok-secret.ensures h s (standing_child st (refers st d).0) Γ g.names).is (stops-on _ _ ((c.in_err-statement.ensures h s (standing_child st (refers st d).1.0)).is Γ D g))))
 
 pub if_statement-statement-requires-2 : goal.if_statement-statement-requires-2
 if_statement-statement-requires-2 t c = (omega (arith, c.decreases, behind (known_of c.requires.0) c.requires.1 (λ h s r. r.1.1)), walkable_child c.requires.0 c.requires.1 (λ h s r. r.1.1))
@@ -142,8 +142,8 @@ if_statement-returns-in_err-statement-2 t c =
     rw (means st d)
     (walked_stops _ _ c.from_residual-in_err-statement-2.ensures.1
     (λ Γ D g.
-    goes (c.in_ok-secret.ensures h s (standing_child st (refers st d).0) Γ g.names).is
-    (goes (y.is Γ D g) (stops-on _ _ ((c.in_err-statement-2.ensures h s (standing_child st (refers st d).1.1)).is _ _ (later g y))))))
+    then-on (c.in_ok-secret.ensures h s (standing_child st (refers st d).0) Γ g.names).is
+    (then-on (y.is Γ D g) (stops-on _ _ ((c.in_err-statement-2.ensures h s (standing_child st (refers st d).1.1)).is _ _ (later g y))))))
 
 pub if_statement-if_rules-requires : goal.if_statement-if_rules-requires
 if_statement-if_rules-requires t c = let k = known_of c.requires.0 in let d = c.requires.1 in (known_child k d (λ h s r. r.0), known_child k d (λ h s r. r.1.0), known_child k d (λ h s r. r.1.1))

@@ -7,7 +7,7 @@ use Rattle.names.specs.Class.{no_expression}
 use Rattle.names.specs.Sound.{means, never_refused, expression-classed, standing_child, refers, name_small, known_child, behind}
 use Rattle.names.specs.Chains.{index_stands, root-small}
 use Rattle.names.specs.Expressions.{value_naming, known_value, own_value}
-use Rattle.walker.specs.Judge.{halts, goes, valued, not_valued, value_element, value_variable}
+use Rattle.walker.specs.Judge.{halts, then-on, valued, not_valued, value_element, value_variable}
 use Rattle.walker.proofs.Walk.+element_expression_value.Goals as goal
 
 pub element-returns-in_err-hidden : goal.element-returns-in_err-hidden
@@ -26,7 +26,7 @@ element-returns t c = record {
       let st = index_stands c.args.self.now.parts.nodes.now h s c.args.l g c.requires.1 in
       let j = c.in_ok-hidden.ensures h s st Γ sc in
       record {
-        is = goes j.is (c.element_rules.ensures.is s Γ sc (root-small g) _ (j.type _ refl));
+        is = then-on j.is (c.element_rules.ensures.is s Γ sc (root-small g) _ (j.type _ refl));
         type = c.element_rules.ensures.type s sc.own;
       };
 }
@@ -84,7 +84,7 @@ expression-returns-in_err-b-in-Binary t c =
     let d = decoded c.expression_at.ensures c.in_ok-expression_at.was c.in-Binary.is in
     let f = c.from_residual-in_err-b-in-Binary.ensures.1 in
     let a = c.in_ok-a-in-Binary.ensures h s (standing_child st (refers st d).0) Γ sc in
-    rw (means st d) (record { is = goes a.is (halts _ _ _ f (c.in_err-b-in-Binary.ensures h s (standing_child st (refers st d).1) Γ sc).is); type = not_valued _ _ f _ })
+    rw (means st d) (record { is = then-on a.is (halts _ _ _ f (c.in_err-b-in-Binary.ensures h s (standing_child st (refers st d).1) Γ sc).is); type = not_valued _ _ f _ })
 
 pub expression-returns-in_ok-b-in-Binary : goal.expression-returns-in_ok-b-in-Binary
 unfolding expr_refusal secret
@@ -95,7 +95,7 @@ expression-returns-in_ok-b-in-Binary t c =
     let b = c.in_ok-b-in-Binary.ensures h s (standing_child st (refers st d).1) Γ sc in
     rw (means st d)
     (record {
-      is = goes a.is (goes b.is (rw (← a.type _ refl, ← b.type _ refl) c.binary.ensures.is));
+      is = then-on a.is (then-on b.is (rw (← a.type _ refl, ← b.type _ refl) c.binary.ensures.is));
       type = rw (← a.type _ refl, ← b.type _ refl) c.binary.ensures.type;
     })
 

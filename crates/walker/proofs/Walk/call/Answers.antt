@@ -1,6 +1,6 @@
 -- The arguments, then 11 and 12.
 use Rattle.rules.specs.Walk.{stmt_refusal}
-use Rattle.walker.specs.Judge.{stops, goes}
+use Rattle.walker.specs.Judge.{stops, then-on}
 use Rattle.walker.specs.Simple.{call_known, call_chain, call_means}
 use Rattle.walker.proofs.Walk.call.Goals as goal
 
@@ -24,7 +24,7 @@ returns-in_err-given c = λ h s st. record {
   is = λ Γ D sc own.
       let k = call_chain c.requires.0 st in
       rw ((call_means c.requires.0 st).1, ← c.arguments_clash.ensures h s k)
-      (goes (c.in_ok-arguments.ensures h s k Γ sc) (stops _ _ _ c.from_residual-in_err-given.ensures.1 c.in_err-given.ensures));
+      (then-on (c.in_ok-arguments.ensures h s k Γ sc) (stops _ _ _ c.from_residual-in_err-given.ensures.1 c.in_err-given.ensures));
 }
 
 pub call_fits-requires : goal.call_fits-requires
@@ -36,5 +36,5 @@ returns c = λ h s st. record {
   is = λ Γ D sc own.
       let k = call_chain c.requires.0 st in
       rw ((call_means c.requires.0 st).1, ← c.arguments_clash.ensures h s k, ← c.call_fits.ensures h s k sc.own own)
-      (goes (c.in_ok-arguments.ensures h s k Γ sc) (goes c.in_ok-given.ensures c.given-2.ensures));
+      (then-on (c.in_ok-arguments.ensures h s k Γ sc) (then-on c.in_ok-given.ensures c.given-2.ensures));
 }

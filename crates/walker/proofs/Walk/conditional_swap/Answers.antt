@@ -4,7 +4,7 @@ use Rattle.rules.specs.Image.{is_secret}
 use Rattle.rules.specs.Walk.{stmt_refusal}
 use Rattle.names.specs.Sound.{means, refers, standing_child, known_child}
 use Rattle.names.specs.Statements.{known_target, conditional_left, conditional_right}
-use Rattle.walker.specs.Judge.{stops, goes, place_refusal, read}
+use Rattle.walker.specs.Judge.{stops, then-on, place_refusal, read}
 use Rattle.walker.specs.Simple.{secret-target, same-roots}
 use Rattle.walker.proofs.Walk.conditional_swap.Goals as goal
 
@@ -26,7 +26,7 @@ returns-in_err-place c = λ h s st. record {
   is = λ p Γ D sc.
       let d = c.requires.is in
       rw (means st d)
-      (goes (c.in_ok-secret.ensures h s (standing_child st (refers st d).0) Γ sc).is
+      (then-on (c.in_ok-secret.ensures h s (standing_child st (refers st d).0) Γ sc).is
       (stops _ _ _ c.from_residual-in_err-place.ensures.1 (c.in_err-place.ensures h s (conditional_left st d) Γ sc)));
 }
 
@@ -39,8 +39,8 @@ returns-in_err-place-2 c = λ h s st. record {
   is = λ p Γ D sc.
       let d = c.requires.is in
       rw (means st d)
-      (goes (c.in_ok-secret.ensures h s (standing_child st (refers st d).0) Γ sc).is
-      (goes (c.in_ok-place.ensures h s (conditional_left st d) Γ sc)
+      (then-on (c.in_ok-secret.ensures h s (standing_child st (refers st d).0) Γ sc).is
+      (then-on (c.in_ok-place.ensures h s (conditional_left st d) Γ sc)
       (stops _ _ _ c.from_residual-in_err-place-2.ensures.1 (c.in_err-place-2.ensures h s (conditional_right st d) Γ sc))));
 }
 
@@ -56,7 +56,7 @@ returns-in_err-given c = λ h s st. record {
         ← secret-target h s c.args.left c.root.ensures (c.is_secret.ensures ∙ ap is_secret (read s sc.own _ c.variable.ensures)),
         ← secret-target h s c.args.right c.root-2.ensures (c.is_secret-2.ensures ∙ ap is_secret (read s sc.own _ c.variable-2.ensures)),
       )
-      (goes e.is (goes (c.in_ok-place.ensures h s (conditional_left st d) Γ sc) (goes (c.in_ok-place-2.ensures h s (conditional_right st d) Γ sc)
+      (then-on e.is (then-on (c.in_ok-place.ensures h s (conditional_left st d) Γ sc) (then-on (c.in_ok-place-2.ensures h s (conditional_right st d) Γ sc)
       (stops _ _ _ c.from_residual-in_err-given.ensures.1 c.in_err-given.ensures))));
 }
 
@@ -83,7 +83,7 @@ returns-in_err-given-2 c = λ h s st. record {
         ← secret-target h s c.args.right c.root-2.ensures (c.is_secret-2.ensures ∙ ap is_secret (read s sc.own _ c.variable-2.ensures)),
         ← c.condition_clash.ensures.is h s k l m,
       )
-      (goes e.is (goes (c.in_ok-place.ensures h s l Γ sc) (goes (c.in_ok-place-2.ensures h s m Γ sc) (goes c.in_ok-given.ensures
+      (then-on e.is (then-on (c.in_ok-place.ensures h s l Γ sc) (then-on (c.in_ok-place-2.ensures h s m Γ sc) (then-on c.in_ok-given.ensures
       (stops _ _ _ c.from_residual-in_err-given-2.ensures.1 c.in_err-given-2.ensures)))));
 }
 
@@ -104,5 +104,5 @@ returns c = λ h s st. record {
         ← c.condition_clash.ensures.is h s k l m,
         ← same-roots h s c.args.left c.args.right c.root-3.ensures c.root-4.ensures (c.same_type.ensures.is s sc.own),
       )
-      (goes e.is (goes (c.in_ok-place.ensures h s l Γ sc) (goes (c.in_ok-place-2.ensures h s m Γ sc) (goes c.in_ok-given.ensures (goes c.in_ok-given-2.ensures c.given-3.ensures)))));
+      (then-on e.is (then-on (c.in_ok-place.ensures h s l Γ sc) (then-on (c.in_ok-place-2.ensures h s m Γ sc) (then-on c.in_ok-given.ensures (then-on c.in_ok-given-2.ensures c.given-3.ensures)))));
 }

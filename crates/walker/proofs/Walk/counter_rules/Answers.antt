@@ -3,7 +3,7 @@ use mathlib.Core.Path.{ap, ◌∙◌}
 use Rattle.rules.specs.Image as rules
 use Rattle.rules.specs.Image.{is_counter}
 use Rattle.rules.specs.Walk.{declarable}
-use Rattle.walker.specs.Judge.{stops, goes, read}
+use Rattle.walker.specs.Judge.{stops, then-on, read}
 use Rattle.walker.specs.Nested.{read_own}
 use Rattle.walker.proofs.Walk.counter_rules.Goals as goal
 
@@ -18,5 +18,5 @@ pub returns : goal.returns
 returns c = record {
   is = λ s D own procs m l.
       rw (← c.can_declare.ensures D m l ∙ ap (λ (q : rules.Procedure). declarable q D c.args.x) (read_own s procs _ c.own.ensures), ← c.is_counter.ensures ∙ ap is_counter (read s own _ c.variable.ensures))
-      (goes c.in_ok-given.ensures c.given-2.ensures);
+      (then-on c.in_ok-given.ensures c.given-2.ensures);
 }

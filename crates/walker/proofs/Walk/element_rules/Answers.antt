@@ -2,7 +2,7 @@
 use mathlib.Core.Path.{ap, ◌∙◌}
 use Rattle.rules.specs.Image.{is_array, is_secret}
 use Rattle.rules.specs.Walk.{element_refusal}
-use Rattle.walker.specs.Judge.{halts, goes, refuses, valued, not_valued, read}
+use Rattle.walker.specs.Judge.{halts, then-on, refuses, valued, not_valued, read}
 use Rattle.walker.proofs.Walk.element_rules.Goals as goal
 
 pub returns-in_err-named : goal.returns-in_err-named
@@ -23,7 +23,7 @@ returns-in_err-given c =
     record {
       is = λ s Γ sc small e q.
           rw (← c.node-n.ensures, ← c.root-x.ensures, ← q, ← c.is_unsafe-free.ensures, ← c.is_array.ensures ∙ ap is_array (read s sc.own _ c.variable-v.ensures), ← c.is_secret-secret.ensures ∙ ap is_secret (read s sc.own _ c.variable-v.ensures))
-          (goes (c.in_ok-named.ensures Γ sc.marks (rw c.root-x.ensures small)) (refuses _ _ f c.in_err-given.ensures));
+          (then-on (c.in_ok-named.ensures Γ sc.marks (rw c.root-x.ensures small)) (refuses _ _ f c.in_err-given.ensures));
       type = λ s own. not_valued _ _ f _;
     }
 
@@ -33,6 +33,6 @@ returns c =
     record {
       is = λ s Γ sc small e q.
           rw (← c.node-n.ensures, ← c.root-x.ensures, ← q, ← c.is_unsafe-free.ensures, ← c.is_array.ensures ∙ ap is_array (read s sc.own _ c.variable-v.ensures), ← c.is_secret-secret.ensures ∙ ap is_secret (read s sc.own _ c.variable-v.ensures))
-          (goes (c.in_ok-named.ensures Γ sc.marks (rw c.root-x.ensures small)) c.in_ok-given.ensures);
+          (then-on (c.in_ok-named.ensures Γ sc.marks (rw c.root-x.ensures small)) c.in_ok-given.ensures);
       type = λ s own. rw (← c.root-x.ensures, ← c.is_secret-secret.ensures ∙ ap is_secret (read s own _ c.variable-v.ensures)) (valued _);
     }

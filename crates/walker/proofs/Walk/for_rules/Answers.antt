@@ -1,5 +1,5 @@
 -- The bounds' names are taken in, and looked for in what the body changes.
-use Rattle.walker.specs.Judge.{stops, goes}
+use Rattle.walker.specs.Judge.{stops, then-on}
 use Rattle.walker.specs.Nested.{for_clash}
 use Rattle.walker.proofs.Walk.for_rules.Goals as goal
 
@@ -9,6 +9,6 @@ returns-in_err-given c = record { is = λ h s a b t. stops _ _ _ c.from_residual
 pub returns : goal.returns
 returns c = record {
   is = λ h s a b t.
-      goes c.in_ok-given.ensures
+      then-on c.in_ok-given.ensures
       (rw (← for_clash c.new-used.ensures (c.insert_variables.ensures h s a) (c.insert_variables-2.ensures h s b) (c.changes.ensures h s t)) c.given-2.ensures);
 }

@@ -2,7 +2,7 @@
 use Rattle.rules.specs.Walk.{stmt_refusal}
 use Rattle.names.specs.Sound.{means}
 use Rattle.names.specs.Statements.{known_target, swap_left, swap_right}
-use Rattle.walker.specs.Judge.{stops, goes, place_refusal}
+use Rattle.walker.specs.Judge.{stops, then-on, place_refusal}
 use Rattle.walker.specs.Simple.{same-roots}
 use Rattle.walker.proofs.Walk.swap.Goals as goal
 
@@ -24,7 +24,7 @@ returns-in_err-place-2 c = λ h s st. record {
   is = λ p Γ D sc.
       let d = c.requires.is in
       rw (means st d)
-      (goes (c.in_ok-place.ensures h s (swap_left st d) Γ sc) (stops _ _ _ c.from_residual-in_err-place-2.ensures.1 (c.in_err-place-2.ensures h s (swap_right st d) Γ sc)));
+      (then-on (c.in_ok-place.ensures h s (swap_left st d) Γ sc) (stops _ _ _ c.from_residual-in_err-place-2.ensures.1 (c.in_err-place-2.ensures h s (swap_right st d) Γ sc)));
 }
 
 pub swap_clash-requires : goal.swap_clash-requires
@@ -38,7 +38,7 @@ returns-in_err-given c = λ h s st. record {
       let l = swap_left st d in
       let m = swap_right st d in
       rw (means st d, ← c.swap_clash.ensures.is h s l m)
-      (goes (c.in_ok-place.ensures h s l Γ sc) (goes (c.in_ok-place-2.ensures h s m Γ sc) (stops _ _ _ c.from_residual-in_err-given.ensures.1 c.in_err-given.ensures)));
+      (then-on (c.in_ok-place.ensures h s l Γ sc) (then-on (c.in_ok-place-2.ensures h s m Γ sc) (stops _ _ _ c.from_residual-in_err-given.ensures.1 c.in_err-given.ensures)));
 }
 
 pub returns : goal.returns
@@ -49,5 +49,5 @@ returns c = λ h s st. record {
       let l = swap_left st d in
       let m = swap_right st d in
       rw (means st d, ← c.swap_clash.ensures.is h s l m, ← same-roots h s c.args.left c.args.right c.root.ensures c.root-2.ensures (c.same_type.ensures.is s sc.own))
-      (goes (c.in_ok-place.ensures h s l Γ sc) (goes (c.in_ok-place-2.ensures h s m Γ sc) (goes c.in_ok-given.ensures c.given-2.ensures)));
+      (then-on (c.in_ok-place.ensures h s l Γ sc) (then-on (c.in_ok-place-2.ensures h s m Γ sc) (then-on c.in_ok-given.ensures c.given-2.ensures)));
 }

@@ -4,7 +4,7 @@ use Rattle.rules.specs.Image.{is_secret}
 use Rattle.rules.specs.Walk.{stmt_refusal}
 use Rattle.names.specs.Sound.{means, refers, standing_child, known_child}
 use Rattle.names.specs.Statements.{known_target, update_target}
-use Rattle.walker.specs.Judge.{stops, goes, place_refusal, read}
+use Rattle.walker.specs.Judge.{stops, then-on, place_refusal, read}
 use Rattle.walker.specs.Simple.{secret-target}
 use Rattle.walker.proofs.Walk.update.Goals as goal
 
@@ -26,7 +26,7 @@ returns-in_err-secret c = λ h s st. record {
   is = λ p Γ D sc.
       let d = c.requires.is in
       rw (means st d)
-      (goes (c.in_ok-place.ensures h s (update_target st d) Γ sc)
+      (then-on (c.in_ok-place.ensures h s (update_target st d) Γ sc)
       (stops _ _ _ c.from_residual-in_err-secret.ensures.1 (c.in_err-secret.ensures h s (standing_child st (refers st d).1) Γ sc).is));
 }
 
@@ -37,7 +37,7 @@ returns-in_err-given c = λ h s st. record {
       let d = c.requires.is in
       let e = c.in_ok-secret.ensures h s (standing_child st (refers st d).1) Γ sc in
       rw (means st d, ← e.type _ refl, ← secret-target h s c.args.target c.root.ensures (c.is_secret-public.ensures ∙ ap is_secret (read s sc.own _ c.variable.ensures)))
-      (goes (c.in_ok-place.ensures h s (update_target st d) Γ sc) (goes e.is (stops _ _ _ c.from_residual-in_err-given.ensures.1 c.in_err-given.ensures)));
+      (then-on (c.in_ok-place.ensures h s (update_target st d) Γ sc) (then-on e.is (stops _ _ _ c.from_residual-in_err-given.ensures.1 c.in_err-given.ensures)));
 }
 
 pub update_clash-requires : goal.update_clash-requires
@@ -52,5 +52,5 @@ returns c = λ h s st. record {
       let v = standing_child st (refers st d).1 in
       let e = c.in_ok-secret.ensures h s v Γ sc in
       rw (means st d, ← e.type _ refl, ← secret-target h s c.args.target c.root.ensures (c.is_secret-public.ensures ∙ ap is_secret (read s sc.own _ c.variable.ensures)), ← c.update_clash.ensures.is h s l v)
-      (goes (c.in_ok-place.ensures h s l Γ sc) (goes e.is (goes c.in_ok-given.ensures c.given-2.ensures)));
+      (then-on (c.in_ok-place.ensures h s l Γ sc) (then-on e.is (then-on c.in_ok-given.ensures c.given-2.ensures)));
 }

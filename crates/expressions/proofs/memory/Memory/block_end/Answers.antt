@@ -1,20 +1,17 @@
--- The two tests, public before secret, are the two choices of the rules.
-use mathlib.Core.Path.{sym, ◌∙◌}
+-- The first test that refuses decides.
 use Rattle.std.proofs.Math.Nat.{add-sub_cancel_left}
-use Rattle.expressions.proofs.Laws.{block-public, block-secret, block-done}
+use Rattle.std.proofs.lemmas.Result.{err_from_is_err_and}
+use Rattle.records.specs.Refusals.{then-stops, then-on}
+use Rattle.expressions.proofs.Laws.{block-ends}
 use Rattle.expressions.proofs.memory.Memory.block_end.Goals as goal
 
-pub returns-then-not-cleared : goal.returns-then-not-cleared
-returns-then-not-cleared c =
+pub returns-in_err-given : goal.returns-in_err-given
+returns-in_err-given c =
     λ trace left entries s h.
-    rw c.at.ensures (block-public _ _ _ _ s h (sym (rw add-sub_cancel_left at c.cleared.ensures) ∙ c.if-not-cleared.true))
-
-pub returns-then-not-cleared-2 : goal.returns-then-not-cleared-2
-returns-then-not-cleared-2 c =
-    λ trace left entries s h.
-    rw c.at-then-not-cleared-2.ensures (block-secret _ _ _ _ s h (sym (rw add-sub_cancel_left at c.cleared.ensures) ∙ c.if-not-cleared.false) (sym (rw add-sub_cancel_left at c.cleared-2.ensures) ∙ c.if-not-cleared-2.true))
+    let p = err_from_is_err_and c.from_residual.result c.from_residual.ensures.1 in
+    block-ends _ _ _ _ s h _ (rw (p.1, p.2, ← (rw add-sub_cancel_left at c.cleared.ensures)) (then-stops c.in_err-given.field-0.0 _ _ c.in_err-given.ensures))
 
 pub returns : goal.returns
 returns c =
     λ trace left entries s h.
-    block-done _ _ _ _ s h (sym (rw add-sub_cancel_left at c.cleared.ensures) ∙ c.if-not-cleared.false) (sym (rw add-sub_cancel_left at c.cleared-2.ensures) ∙ c.if-not-cleared-2.false)
+    block-ends _ _ _ _ s h _ (rw (← (rw add-sub_cancel_left at c.cleared.ensures), ← (rw add-sub_cancel_left at c.cleared-2.ensures)) (then-on c.in_ok-given.ensures c.given-2.ensures))
