@@ -6,3 +6,4 @@ pub mod Rows
 pub mod Order
 pub mod Outcomes
 pub mod Names
+pub mod Copies

@@ -16,7 +16,7 @@ use Rattle.rules.specs.Run.{home, store_slots, env_of, last_of, sum}
 use Rattle.records.specs.Slots.{Table, slot_of}
 use Rattle.entry.specs.Slots.{slots_placed}
 use Rattle.entry.proofs.Rows.{all_length, rows_at, rows_other, store_slot, sum-split}
-use Rattle.laws.specs.Records.{Placed, Sound}
+use Rattle.laws.specs.Records.{Placed, Typed, Sound}
 use Rattle.laws.specs.Cells.{room_grows}
 use Rattle.entry.proofs.Outcomes.{Entered}
 
@@ -33,7 +33,17 @@ sum-within ns j l = omega (arith, sum-split ns j, ap sum (drop-cons ns j 0 l))
 abbrev pub Good : Slot → Type 0
 Good x = (0 < x.width) × (x.width ≤ 64) × (x.base + x.cells ≤ 4096)
 
-module _ {forbidden : Binary → Bool} {h : Header} {s : Parts} (f : Sound forbidden h s) where
+-- What an image has whose header, procedures and variables are accepted, whatever its nodes are.
+pub record Formed (h : Header) (s : Parts) : Type 0 where
+  pub some : 1 ≤ h.procedures
+  pub narrow : h.variables ≤ 1024
+  pub procedure : (p : ℕ) → p < h.procedures → Placed h s p
+  pub variable : (x : ℕ) → x < h.variables → Typed h s x
+
+pub formed : {forbidden : Binary → Bool} {h : Header} {s : Parts} → Sound forbidden h s → Formed h s
+formed f = record { some = f.some; narrow = f.narrow; procedure = f.procedure; variable = f.variable }
+
+module _ {h : Header} {s : Parts} (f : Formed h s) where
   -- The home of every local is good.
   pub home-good : {works : ℕ} {lengths store : List ℕ} → Entered h s works lengths store → (y : ℕ) → y < h.variables → Good (home h s (length store) y)
   unfolding home

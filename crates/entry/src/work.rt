@@ -1,5 +1,6 @@
-// The work words cleared, the store copied into them and back: a library call each, and functions, since docs/CONTRACTS.md names the
-// three, and wrong answers of `clear` and `copy_out` (last_word_left, store_from_the_last_word) are tried by name.
+// The work words cleared, the store copied into them and back: functions, since docs/CONTRACTS.md names the three, and wrong answers of
+// `clear` and `copy_out` (last_word_left, store_from_the_last_word) are tried by name. The copies go cell by cell, since `copy_from_slice` of a
+// length that is not known asks the C library for memmove, which callers in C need not have.
 ghost use Rattle.std.specs.Prelude.{◌≡◌, ◌≤◌, ◌++◌, length, replicate, take, drop};
 
 // Every word 0.
@@ -14,7 +15,9 @@ pub fn copy_in(work: &mut [u64], store: &[u64])
     requires { length store.now ≤ length work.old }
     ensures { work.new ≡ store.now ++ drop (length store.now) work.old }
 {
-    work[..store.len()].copy_from_slice(store);
+    for (i, cell) in store.iter().enumerate() {
+        work[i] = *cell;
+    }
 }
 
 // The store back from the front of the work words.
@@ -22,6 +25,7 @@ pub fn copy_out(store: &mut [u64], work: &[u64])
     requires { length store.old ≤ length work.now }
     ensures { store.new ≡ take (length store.old) work.now }
 {
-    let n = store.len();
-    store.copy_from_slice(&work[..n]);
+    for (i, cell) in store.iter_mut().enumerate() {
+        *cell = work[i];
+    }
 }

@@ -1,6 +1,6 @@
 // The cycle of executors: statement, list of statements, loop and called body, by node number, in both directions.
 // A statement begins outside the cycle: its step, its operands and its own cells. What is left of it is one of a set of cases.
-// Memory and run are handed on side by side: a leaf borrows either of them alone.
+// Memory and trace are handed on side by side: a leaf borrows either of them alone.
 // Direction is a `bool`: the clauses of `statement`, of `update` and of the runner speak of `direction_of inverse`.
 // `Statement` and `Bodies` are of a node's or a procedure's number and of the parts lent beside it: as an invariant of a type that has both,
 // either would have to be shown wherever a number is read out of a record, and each clause would name the type's fields.
@@ -15,7 +15,7 @@ ghost use Rattle.executors.specs.World.{Opened, Statement, Chain, Bodies};
 ghost use Rattle.executors.specs.Ways.{Sound, stmt_at, stmts_at};
 ghost use Rattle.executors.specs.Promises.{Decides, Bounds, Performs, Begins, Executes, Turns, Calls};
 
-use expressions::{Memory, Run};
+use expressions::{Memory, Trace};
 use records::{Node, Refusal, Rule, Verdict};
 
 // A for whose bounds are known: its node, its counter's cell, both bounds in the order of the direction, its body.
@@ -48,19 +48,19 @@ pub enum Rest {
 
 // An if: the branch that its condition chooses.
 fn decided(
-    memory: &Memory<'_>,
-    run: &mut Run<'_>,
+    memory: &Memory<'_, '_, '_, '_>,
+    trace: &mut Trace<'_>,
     condition: u16,
     chosen: u16,
     otherwise: u16,
 ) -> Result<Rest, Refusal>
-    requires { Readable is_expression memory.now.parts.nodes.now condition }
-    ensures by_index { (n : ℕ) → Statement memory.now.parts.nodes.now chosen × (n < chosen) → Statement memory.now.parts.nodes.now otherwise × (n < otherwise)
-        → Sound memory.now.parts.nodes.now n result }
-    ensures decides { Decides memory.now run.old condition chosen otherwise result run.new }
-    ensures same { SameRun run.old run.new }
+    requires { Readable is_expression memory.now.parts.now.nodes.now condition }
+    ensures by_index { (n : ℕ) → Statement memory.now.parts.now.nodes.now chosen × (n < chosen) → Statement memory.now.parts.now.nodes.now otherwise × (n < otherwise)
+        → Sound memory.now.parts.now.nodes.now n result }
+    ensures decides { Decides memory.now trace.old condition chosen otherwise result trace.new }
+    ensures same { SameRun trace.old trace.new }
 {
-    let v = memory.value(run, condition)?;
+    let v = memory.value(trace, condition)?;
     if v == 0 {
         return Ok(Rest::Branch(otherwise));
     }
@@ -69,21 +69,21 @@ fn decided(
 
 // A for: both bounds, worked out in this order.
 fn bounded(
-    memory: &Memory<'_>,
-    run: &mut Run<'_>,
+    memory: &Memory<'_, '_, '_, '_>,
+    trace: &mut Trace<'_>,
     n: u16,
     counter: u16,
     first: u16,
     second: u16,
     body: u16,
 ) -> Result<Rest, Refusal>
-    requires { Readable is_expression memory.now.parts.nodes.now first × Readable is_expression memory.now.parts.nodes.now second }
-    ensures sound { Statement memory.now.parts.nodes.now body × (n < body) → Sound memory.now.parts.nodes.now n result }
-    ensures bounds { Bounds memory.now run.old n counter first second body result run.new }
-    ensures same { SameRun run.old run.new }
+    requires { Readable is_expression memory.now.parts.now.nodes.now first × Readable is_expression memory.now.parts.now.nodes.now second }
+    ensures sound { Statement memory.now.parts.now.nodes.now body × (n < body) → Sound memory.now.parts.now.nodes.now n result }
+    ensures bounds { Bounds memory.now trace.old n counter first second body result trace.new }
+    ensures same { SameRun trace.old trace.new }
 {
-    let v = memory.value(run, first)?;
-    let w = memory.value(run, second)?;
+    let v = memory.value(trace, first)?;
+    let w = memory.value(trace, second)?;
     Ok(Rest::Turns(Counting {
         node: n,
         cell: memory.base_of(counter),
@@ -95,17 +95,17 @@ fn bounded(
 
 // The statement at node n, taken apart, once its step is taken.
 fn performed(
-    memory: &mut Memory<'_>,
-    run: &mut Run<'_>,
+    memory: &mut Memory<'_, '_, '_, '_>,
+    trace: &mut Trace<'_>,
     inverse: bool,
     n: u16,
     node: Node,
 ) -> Result<Rest, Refusal>
-    requires { Opened memory.old.parts.nodes.now n node }
-    ensures sound { Sound memory.old.parts.nodes.now n result }
-    ensures performs { Performs memory.old run.old (direction_of inverse) n node memory.new.cells.now result run.new }
+    requires { Opened memory.old.parts.now.nodes.now n node }
+    ensures sound { Sound memory.old.parts.now.nodes.now n result }
+    ensures performs { Performs memory.old trace.old (direction_of inverse) n node memory.new.cells.now result trace.new }
     ensures keeps { KeepsSlots memory.old memory.new }
-    ensures same { SameRun run.old run.new }
+    ensures same { SameRun trace.old trace.new }
 {
     match node {
         Node::Empty => Ok(Rest::Finished),
@@ -114,11 +114,11 @@ fn performed(
             target,
             value,
         } => {
-            memory.update(run, inverse, operator, target, value)?;
+            memory.update(trace, inverse, operator, target, value)?;
             Ok(Rest::Finished)
         }
         Node::Swap { left, right } => {
-            memory.swap(run, 1, left, right)?;
+            memory.swap(trace, 1, left, right)?;
             Ok(Rest::Finished)
         }
         Node::ConditionalSwap {
@@ -126,10 +126,10 @@ fn performed(
             left,
             right,
         } => {
-            memory.conditional_swap(run, condition, left, right)?;
+            memory.conditional_swap(trace, condition, left, right)?;
             Ok(Rest::Finished)
         }
-        Node::If { condition, yes, no } => decided(memory, run, condition, yes, no),
+        Node::If { condition, yes, no } => decided(memory, trace, condition, yes, no),
         Node::For {
             counter,
             first,
@@ -137,9 +137,9 @@ fn performed(
             body,
         } => {
             if inverse {
-                return bounded(memory, run, n, counter, second, first, body);
+                return bounded(memory, trace, n, counter, second, first, body);
             }
-            bounded(memory, run, n, counter, first, second, body)
+            bounded(memory, trace, n, counter, first, second, body)
         }
         Node::Call {
             procedure,
@@ -171,47 +171,52 @@ fn performed(
 }
 
 // The statement at node n: its step, its operands, its own cells.
-fn begun(memory: &mut Memory<'_>, run: &mut Run<'_>, inverse: bool, n: u16) -> Result<Rest, Refusal>
-    requires { Statement memory.old.parts.nodes.now n }
-    ensures sound { Sound memory.old.parts.nodes.now n result }
-    ensures begins { Begins memory.old run.old (direction_of inverse) n memory.new.cells.now result run.new }
+fn begun(
+    memory: &mut Memory<'_, '_, '_, '_>,
+    trace: &mut Trace<'_>,
+    inverse: bool,
+    n: u16,
+) -> Result<Rest, Refusal>
+    requires { Statement memory.old.parts.now.nodes.now n }
+    ensures sound { Sound memory.old.parts.now.nodes.now n result }
+    ensures begins { Begins memory.old trace.old (direction_of inverse) n memory.new.cells.now result trace.new }
     ensures keeps { KeepsSlots memory.old memory.new }
-    ensures same { SameRun run.old run.new }
+    ensures same { SameRun trace.old trace.new }
 {
-    run.step(n)?;
+    trace.step(n)?;
     let node = records::node_at(memory.parts.nodes, n)?;
-    performed(memory, run, inverse, n, node)
+    performed(memory, trace, inverse, n, node)
 }
 
 // The statement at node n of procedure p.
 #[cycle(called_statement_statements_turns)]
 pub fn statement(
-    memory: &mut Memory<'_>,
-    run: &mut Run<'_>,
+    memory: &mut Memory<'_, '_, '_, '_>,
+    trace: &mut Trace<'_>,
     inverse: bool,
     p: u16,
     n: u16,
 ) -> Verdict
-    requires { Statement memory.old.parts.nodes.now n × Bodies memory.old.parts.nodes.now memory.old.parts.procedures.now p }
-    ensures executes { Executes memory.old run.old p (direction_of inverse) memory.new result run.new (λ w. stmt_at w n) }
+    requires { Statement memory.old.parts.now.nodes.now n × Bodies memory.old.parts.now.nodes.now memory.old.parts.now.procedures.now p }
+    ensures executes { Executes memory.old trace.old p (direction_of inverse) memory.new result trace.new (λ w. stmt_at w n) }
     ensures keeps { SameMemory memory.old memory.new }
-    ensures same { SameRun run.old run.new }
+    ensures same { SameRun trace.old trace.new }
 {
-    match begun(memory, run, inverse, n)? {
+    match begun(memory, trace, inverse, n)? {
         Rest::Finished => Ok(()),
-        Rest::Branch(m) => statement(memory, run, inverse, p, m),
-        Rest::Turns(it) => turns(memory, run, inverse, p, it),
+        Rest::Branch(m) => statement(memory, trace, inverse, p, m),
+        Rest::Turns(it) => turns(memory, trace, inverse, p, it),
         Rest::Call {
             inverse: turned,
             procedure,
             argument,
-        } => called(memory, run, turned, p, procedure, argument),
+        } => called(memory, trace, turned, p, procedure, argument),
         Rest::Block {
             first,
             count,
             statement: m,
         } => {
-            statements(memory, run, inverse, p, m)?;
+            statements(memory, trace, inverse, p, m)?;
             memory.block_end(first, count, n)
         }
     }
@@ -219,24 +224,30 @@ pub fn statement(
 
 // The statements from node n on, which may be missing: in order, or inverse, the last one first.
 #[cycle(called_statement_statements_turns)]
-fn statements(memory: &mut Memory<'_>, run: &mut Run<'_>, inverse: bool, p: u16, n: u16) -> Verdict
-    requires { Chain memory.old.parts.nodes.now n × Bodies memory.old.parts.nodes.now memory.old.parts.procedures.now p }
-    ensures executes { Executes memory.old run.old p (direction_of inverse) memory.new result run.new (λ w. stmts_at w n) }
+fn statements(
+    memory: &mut Memory<'_, '_, '_, '_>,
+    trace: &mut Trace<'_>,
+    inverse: bool,
+    p: u16,
+    n: u16,
+) -> Verdict
+    requires { Chain memory.old.parts.now.nodes.now n × Bodies memory.old.parts.now.nodes.now memory.old.parts.now.procedures.now p }
+    ensures executes { Executes memory.old trace.old p (direction_of inverse) memory.new result trace.new (λ w. stmts_at w n) }
     ensures keeps { SameMemory memory.old memory.new }
-    ensures same { SameRun run.old run.new }
+    ensures same { SameRun trace.old trace.new }
 {
     if n == records::MISSING {
         return Ok(());
     }
     let nodes = memory.parts.nodes;
     if inverse {
-        statements(memory, run, inverse, p, records::next_at(nodes, n))?;
-        return statement(memory, run, inverse, p, n);
+        statements(memory, trace, inverse, p, records::next_at(nodes, n))?;
+        return statement(memory, trace, inverse, p, n);
     }
     // The chain is followed from node to node: nothing is counted, and an iterator over it would promise the whole chain.
     let mut at = n;
     while at != records::MISSING {
-        statement(memory, run, inverse, p, at)?;
+        statement(memory, trace, inverse, p, at)?;
         at = records::next_at(nodes, at);
     }
     Ok(())
@@ -244,16 +255,22 @@ fn statements(memory: &mut Memory<'_>, run: &mut Run<'_>, inverse: bool, p: u16,
 
 // The turns of a for whose bounds are known: while the counter, which the body may change, differs from the second.
 #[cycle(called_statement_statements_turns)]
-fn turns(memory: &mut Memory<'_>, run: &mut Run<'_>, inverse: bool, p: u16, it: Counting) -> Verdict
-    requires { Statement memory.old.parts.nodes.now it.body × (it.node < it.body) × Bodies memory.old.parts.nodes.now memory.old.parts.procedures.now p }
-    ensures executes { Turns memory.old run.old p (direction_of inverse) memory.new result run.new it }
+fn turns(
+    memory: &mut Memory<'_, '_, '_, '_>,
+    trace: &mut Trace<'_>,
+    inverse: bool,
+    p: u16,
+    it: Counting,
+) -> Verdict
+    requires { Statement memory.old.parts.now.nodes.now it.body × (it.node < it.body) × Bodies memory.old.parts.now.nodes.now memory.old.parts.now.procedures.now p }
+    ensures executes { Turns memory.old trace.old p (direction_of inverse) memory.new result trace.new it }
     ensures keeps { SameMemory memory.old memory.new }
-    ensures same { SameRun run.old run.new }
+    ensures same { SameRun trace.old trace.new }
 {
     memory.put(it.cell, it.first);
     while memory.cell(it.cell) != it.second {
-        run.step(it.node)?;
-        statement(memory, run, inverse, p, it.body)?;
+        trace.step(it.node)?;
+        statement(memory, trace, inverse, p, it.body)?;
         if memory.cell(it.cell) == it.first {
             return Err(Rule::LoopBack.at(it.node));
         }
@@ -265,22 +282,22 @@ fn turns(memory: &mut Memory<'_>, run: &mut Run<'_>, inverse: bool, p: u16, it: 
 // The body of procedure q, which is below p, with what the arguments from this node on lend.
 #[cycle(called_statement_statements_turns)]
 fn called(
-    memory: &mut Memory<'_>,
-    run: &mut Run<'_>,
+    memory: &mut Memory<'_, '_, '_, '_>,
+    trace: &mut Trace<'_>,
     inverse: bool,
     p: u16,
     q: u16,
     argument: u16,
 ) -> Verdict
-    requires { Chained memory.old.parts.nodes.now argument × Bodies memory.old.parts.nodes.now memory.old.parts.procedures.now p }
-    ensures executes { Calls memory.old run.old p (direction_of inverse) memory.new result run.new q argument }
+    requires { Chained memory.old.parts.now.nodes.now argument × Bodies memory.old.parts.now.nodes.now memory.old.parts.now.procedures.now p }
+    ensures executes { Calls memory.old trace.old p (direction_of inverse) memory.new result trace.new q argument }
     ensures keeps { SameMemory memory.old memory.new }
-    ensures same { SameRun run.old run.new }
+    ensures same { SameRun trace.old trace.new }
 {
     if p <= q {
         return Err(Rule::Mismatch.at(argument));
     }
     let callee = records::procedure_at(memory.parts.procedures, q);
-    memory.arguments(run, usize::from(callee.first), argument)?;
-    statement(memory, run, inverse, q, callee.body)
+    memory.arguments(trace, usize::from(callee.first), argument)?;
+    statement(memory, trace, inverse, q, callee.body)
 }

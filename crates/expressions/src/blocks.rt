@@ -6,10 +6,10 @@ ghost use Rattle.expressions.specs.Relations.{slot_of, Does};
 ghost use Rattle.expressions.specs.Commands.{passing};
 ghost use Rattle.expressions.specs.Standing.{ran};
 
-use crate::Memory;
+use crate::{Memory, Reading};
 use records::{Rule, Verdict};
 
-impl Memory<'_> {
+impl Reading<'_, '_, '_, '_> {
     // Are all cells of variable x 0?
     fn is_zero(&self, x: u16) -> bool
         ensures { result ≡ zeros self.now.cells.now (slot_of self.now.slots.now x).base (slot_of self.now.slots.now x).cells }
@@ -44,5 +44,16 @@ impl Memory<'_> {
         let end = first + count;
         Rule::PublicLeft.given(n, !self.cleared(false, first, end))?;
         Rule::SecretLeft.given(n, !self.cleared(true, first, end))
+    }
+}
+
+impl Memory<'_, '_, '_, '_> {
+    // The clearing tests at the end of block n over its count names from first on.
+    pub fn block_end(&self, first: u16, count: u16, n: u16) -> Verdict
+        requires { first + count < 65536 }
+        ensures { (trace : List ℕ) (left entries : ℕ) → Does (block_end n (slot_of self.now.slots.now) (range first count))
+            self.now.cells.now trace (ran (Ok tt) left entries) self.now.cells.now trace (ran result left entries) }
+    {
+        self.reading().block_end(first, count, n)
     }
 }

@@ -22,32 +22,32 @@ use Rattle.entry.proofs.Outcomes.{run-refused, refused-trace, run-finished, run-
 use Rattle.expressions.specs.Relations.{saturated, Matches, goes_on, is_stopped}
 use Rattle.expressions.specs.Standing.{ran, came}
 use Rattle.expressions.specs.Trace.{traced_none}
-use Rattle.expressions.specs.declared.trace.Run.{Run}
+use Rattle.expressions.specs.declared.trace.Trace.{Trace}
 use Rattle.records.specs.Slots.{Table}
 use Rattle.runner.specs.Runs.{as_given, Ready, cells_of, slots_begun, Begins, Executed, Worked, Finished}
 use Rattle.runner.proofs.Program.{keeps, inside, world, starting, stands, last_one}
 
 -- ---- the execution
 
-module _ {h : Header} {s : Parts} {works : ℕ} {lengths store : List ℕ} (R : Ready h s works lengths store) (inverse : Bool) (run run' : Run) (r : Result ⊤ Refusal)
+module _ {h : Header} {s : Parts} {works : ℕ} {lengths store : List ℕ} (R : Ready h s works lengths store) (inverse : Bool) (trace trace' : Trace) (r : Result ⊤ Refusal)
     (slots slots' slots'' : Table) (cells cells'' : List ℕ) (p n : ℕ) where
   pub executes : p ≡ h.procedures - 1 → n ≡ (last_of h s).body → length slots ≡ 1024 → length slots' ≡ 1024 → slots' ≡ slots_begun h s lengths (length store) slots
-      → cells ≡ store ++ replicate (room_before h s h.variables) 0 → run.events.now ≡ replicate (length run.events.now) 0 → run.entries ≡ 0
-      → Executed s inverse p n cells slots' run cells'' slots'' r run'
-      → Matches (execution h s (as_given [] inverse lengths store 0 run.left 0)) cells'' run'.events.now (came r run')
+      → cells ≡ store ++ replicate (room_before h s h.variables) 0 → trace.events.now ≡ replicate (length trace.events.now) 0 → trace.run.entries ≡ 0
+      → Executed s inverse p n cells slots' trace cells'' slots'' r trace'
+      → Matches (execution h s (as_given [] inverse lengths store 0 trace.run.left 0)) cells'' trace'.events.now (came r trace')
   unfolding body_of world
   executes ep en long long' es ec et e₀ f =
-      rw (execution-is h s (as_given [] inverse lengths store 0 run.left 0) (keeps R).some)
+      rw (execution-is h s (as_given [] inverse lengths store 0 trace.run.left 0) (keeps R).some)
       ((rw (ep, en, e₀) at f) (world R) (starting R) (stands R slots slots' long long' es) ((world R).within (h.procedures - 1) (last_one R))
-      (record { memory = store ++ replicate (room_before h s h.variables) 0; left = run.left; events = [] })
+      (record { memory = store ++ replicate (room_before h s h.variables) 0; left = trace.run.left; events = [] })
       (record { going = refl; memory_is = sym ec; left_is = refl; traced = traced_none _ et })).is
 
   -- The same over the first of the work words.
   pub worked : (work copied rest : List ℕ) (total : ℕ) → work ≡ replicate works 0 → copied ≡ store ++ drop (length store) work → total ≡ cells_of h s (length store) → length cells'' ≡ total
       → p ≡ h.procedures - 1 → n ≡ (last_of h s).body → length slots ≡ 1024 → length slots' ≡ 1024 → slots' ≡ slots_begun h s lengths (length store) slots
-      → cells ≡ take total copied → Begins work run
-      → Executed s inverse p n cells slots' run cells'' slots'' r run'
-      → Worked h s inverse lengths store run (cells'' ++ rest) r run'
+      → cells ≡ take total copied → Begins work trace
+      → Executed s inverse p n cells slots' trace cells'' slots'' r trace'
+      → Worked h s inverse lengths store trace (cells'' ++ rest) r trace'
   worked work copied rest total ew ek et el ep en long long' es ec b f =
       let begin : cells ≡ store ++ replicate (room_before h s h.variables) 0 =
       ec ∙ rw (et, ek, ew) (cells_begin store (room_before h s h.variables) works (omega (arith, (inside R).room, (inside R).enough))) in

@@ -8,7 +8,7 @@ use lib.ListN.{length}
 use Rattle.std.specs.Prelude.{Result, ⊤}
 use Rattle.rules.specs.Image.{Header, header_of, Parts, parts_of}
 use Rattle.records.specs.declared.refusal.Refusal.{Refusal}
-use Rattle.expressions.specs.declared.trace.Run.{Run}
+use Rattle.expressions.specs.declared.trace.Trace.{Trace}
 use Rattle.rules.specs.Form.{Verdict}
 use Rattle.rules.specs.Check.{slow, verdict}
 use Rattle.rules.specs.Run.{entry_refusal, execution}
@@ -47,9 +47,9 @@ pub tested : (image : List ℕ) (works : ℕ) (lengths store : List ℕ) (h : He
     → entry_tests h s works lengths store ≡ entry_tests (header_of image) (parts_of image) works lengths store
 tested image works lengths store h s eh es = rw (eh, es)
 
-pub worked-at : (image : List ℕ) (inverse : Bool) (lengths store : List ℕ) (run : Run) (work : List ℕ) (r : Result ⊤ Refusal) (run' : Run) (h : Header) (s : Parts)
-    → h ≡ header_of image → s ≡ parts_of image → Worked h s inverse lengths store run work r run' → Worked (header_of image) (parts_of image) inverse lengths store run work r run'
-worked-at image inverse lengths store run work r run' h s eh es w = rw (← eh, ← es) w
+pub worked-at : (image : List ℕ) (inverse : Bool) (lengths store : List ℕ) (trace : Trace) (work : List ℕ) (r : Result ⊤ Refusal) (trace' : Trace) (h : Header) (s : Parts)
+    → h ≡ header_of image → s ≡ parts_of image → Worked h s inverse lengths store trace work r trace' → Worked (header_of image) (parts_of image) inverse lengths store trace work r trace'
+worked-at image inverse lengths store trace work r trace' h s eh es w = rw (← eh, ← es) w
 
 -- ---- the table of slots
 

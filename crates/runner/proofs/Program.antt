@@ -19,7 +19,7 @@ use Rattle.laws.specs.Records as laws
 use Rattle.laws.specs.Records.{laid, part_long, Sound, sound, ranges_ordered}
 use Rattle.entry.proofs.Outcomes.{Entered, entered}
 use Rattle.entry.proofs.Names as names
-use Rattle.entry.proofs.Names.{rows_home, rows_starting, starting-good}
+use Rattle.entry.proofs.Names.{formed, rows_home, rows_starting, starting-good}
 use Rattle.expressions.specs.Relations.{Good}
 use Rattle.records.specs.Slots.{Table}
 use Rattle.executors.specs.World.{Code, Statement, World, Stands}
@@ -57,7 +57,7 @@ module _ {h : Header} {s : Parts} {works : ℕ} {lengths store : List ℕ} (R : 
   body_statement p l = record { code = code; inside = (keeps.procedure p l).body; classed = is_true _ (laws.body_statement keeps p l) }
 
   pub home-good : (y : ℕ) → y < h.variables → Good (home h s (length store) y)
-  home-good y l = let g = names.home-good keeps inside y l in record { some = g.0; most = g.1; placed = g.2 }
+  home-good y l = let g = names.home-good (formed keeps) inside y l in record { some = g.0; most = g.1; placed = g.2 }
 
   -- ---- the program of the executors
 
@@ -88,10 +88,10 @@ module _ {h : Header} {s : Parts} {works : ℕ} {lengths store : List ℕ} (R : 
       record {
         mine = last_one;
         agree = record {
-          rows = λ y l u. rows_starting keeps inside slots _ slots' long refl e y l u;
-          good = λ y l u. let g = starting-good keeps inside slots _ slots' long refl e y l u in record { some = g.0; most = g.1; placed = g.2 };
+          rows = λ y l u. rows_starting (formed keeps) inside slots _ slots' long refl e y l u;
+          good = λ y l u. let g = starting-good (formed keeps) inside slots _ slots' long refl e y l u in record { some = g.0; most = g.1; placed = g.2 };
           room = omega (arith, last.end, keeps.narrow);
         };
-        home = λ q y lq l u. rows_home keeps inside slots _ slots' long refl e y (omega (arith, (keeps.procedure q (omega (arith, last_one))).end))
+        home = λ q y lq l u. rows_home (formed keeps) inside slots _ slots' long refl e y (omega (arith, (keeps.procedure q (omega (arith, last_one))).end))
             (inl (omega (arith, ranges_ordered h s keeps.procedure q (h.procedures - 1) lq last_one)));
       }

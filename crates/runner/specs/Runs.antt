@@ -15,7 +15,7 @@ use Rattle.executors.specs.World as executors
 use Rattle.executors.specs.World.{World, Stands}
 use Rattle.executors.specs.Ways.{stmt_at, Fine, running}
 use Rattle.expressions.specs.Standing.{going, came}
-use Rattle.expressions.specs.declared.trace.Run.{Run}
+use Rattle.expressions.specs.declared.trace.Trace.{Trace}
 
 -- What the run of the rules is given.
 abbrev pub as_given : List ℕ → Bool → List ℕ → List ℕ → ℕ → ℕ → ℕ → Given
@@ -61,20 +61,20 @@ pub record Placed (h : Header) (s : Parts) (lengths : List ℕ) (stored : ℕ) (
   pub slots_are : slots' ≡ slots_begun h s lengths stored slots
 
 -- A run begins with work words and a trace of zeros, and no entries.
-pub record Begins (work : List ℕ) (run : Run) : Type 0 where
+pub record Begins (work : List ℕ) (trace : Trace) : Type 0 where
   pub work_value : work ≡ replicate (length work) 0
-  pub trace_value : run.events.now ≡ replicate (length run.events.now) 0
-  pub none : run.entries ≡ 0
+  pub trace_value : trace.events.now ≡ replicate (length trace.events.now) 0
+  pub none : trace.run.entries ≡ 0
 
 -- What the executors promise of node n of procedure p, over these cells and slots.
-abbrev pub Executed : Parts → Bool → ℕ → ℕ → List ℕ → Table → Run → List ℕ → Table → Result ⊤ Refusal → Run → Type 0
-Executed s inverse p n cells slots run cells' slots' r run' =
+abbrev pub Executed : Parts → Bool → ℕ → ℕ → List ℕ → Table → Trace → List ℕ → Table → Result ⊤ Refusal → Trace → Type 0
+Executed s inverse p n cells slots trace cells' slots' r trace' =
     (w : World s.nodes s.procedures s.variables s.constants) (ρ : Env) → Stands w p slots ρ → Fine w p (stmt_at w n)
-    → executors.Ran s.procedures p (running w p (direction_of inverse) ρ (stmt_at w n)) cells slots run.events.now (going run) cells' slots' run'.events.now (came r run')
+    → executors.Ran s.procedures p (running w p (direction_of inverse) ρ (stmt_at w n)) cells slots trace.events.now (going trace) cells' slots' trace'.events.now (came r trace')
 
 -- The last procedure was run over the first work words.
-pub record Worked (h : Header) (s : Parts) (inverse : Bool) (lengths stored : List ℕ) (run : Run) (work : List ℕ) (r : Result ⊤ Refusal) (run' : Run) : Type 0 where
-  pub is : Matches (execution h s (as_given [] inverse lengths stored 0 run.left 0)) (take (cells_of h s (length stored)) work) run'.events.now (came r run')
+pub record Worked (h : Header) (s : Parts) (inverse : Bool) (lengths stored : List ℕ) (trace : Trace) (work : List ℕ) (r : Result ⊤ Refusal) (trace' : Trace) : Type 0 where
+  pub is : Matches (execution h s (as_given [] inverse lengths stored 0 trace.run.left 0)) (take (cells_of h s (length stored)) work) trace'.events.now (came r trace')
 
 -- How a run ends: the store copied out where nothing was refused, and the work words cleared.
 pub record Finished (stored work : List ℕ) (r : Result ⊤ Refusal) (stored' work' : List ℕ) : Type 0 where
@@ -82,7 +82,7 @@ pub record Finished (stored work : List ℕ) (r : Result ⊤ Refusal) (stored' w
   pub work_is : work' ≡ replicate (length work) 0
 
 -- "number, place, steps, trace entries", the store, the work words and the trace, from one run, with its steps before it, to the other.
-abbrev pub RanBy : List ℕ → Bool → List ℕ → List ℕ → List ℕ → Run → Result ⊤ Refusal → List ℕ → List ℕ → Run → Type 0
-RanBy image inverse lengths store work run r store' work' run' =
-    Ran (as_given image inverse lengths store (length work) run.left (length run.events.now))
-    (as_verdict r).number (as_verdict r).place (run.left - run'.left) run'.entries store' work' run'.events.now
+abbrev pub RanBy : List ℕ → Bool → List ℕ → List ℕ → List ℕ → Trace → Result ⊤ Refusal → List ℕ → List ℕ → Trace → Type 0
+RanBy image inverse lengths store work trace r store' work' trace' =
+    Ran (as_given image inverse lengths store (length work) trace.run.left (length trace.events.now))
+    (as_verdict r).number (as_verdict r).place (trace.run.left - trace'.run.left) trace'.run.entries store' work' trace'.events.now

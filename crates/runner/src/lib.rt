@@ -12,7 +12,7 @@ ghost use Rattle.expressions.specs.Standing.{SameRun};
 ghost use Rattle.executors.specs.World.{Statement, Bodies};
 ghost use Rattle.runner.specs.Runs.{as_given, Ready, Placing, Placed, Begins, Executed, Worked, Finished, RanBy};
 
-use expressions::{Memory, Run};
+use expressions::{Memory, Run, Trace};
 use records::{Header, NO_SLOT, Parts, Slot, Verdict};
 
 // "Answer: number, place, steps, trace entries."
@@ -43,18 +43,18 @@ fn executed(
     n: u16,
     cells: &mut [u64],
     slots: &mut [Slot],
-    run: &mut Run<'_>,
+    trace: &mut Trace<'_>,
 ) -> Verdict
     requires { Statement parts.now.nodes.now n × Bodies parts.now.nodes.now parts.now.procedures.now p }
-    ensures executed { Executed (as_parts parts.now) inverse p n cells.old slots.old run.old cells.new slots.new result run.new }
-    ensures same { SameRun run.old run.new }
+    ensures executed { Executed (as_parts parts.now) inverse p n cells.old slots.old trace.old cells.new slots.new result trace.new }
+    ensures same { SameRun trace.old trace.new }
 {
     let mut memory = Memory {
-        parts: *parts,
+        parts,
         cells,
         slots,
     };
-    executors::statement(&mut memory, run, inverse, p, n)
+    executors::statement(&mut memory, trace, inverse, p, n)
 }
 
 // The last procedure's body over the first work words, which hold the store and the locals; slices one by one, as in `executed`. The
@@ -66,19 +66,27 @@ fn worked(
     lengths: &[u64],
     store: &[u64],
     work: &mut [u64],
-    run: &mut Run<'_>,
+    trace: &mut Trace<'_>,
 ) -> Verdict
     requires ready { Ready (as_header h) (as_parts parts.now) (length work.old) lengths.now store.now }
-    requires begins { Begins work.old run.old }
-    ensures worked { Worked (as_header h) (as_parts parts.now) inverse lengths.now store.now run.old work.new result run.new }
-    ensures same { SameRun run.old run.new }
+    requires begins { Begins work.old trace.old }
+    ensures worked { Worked (as_header h) (as_parts parts.now) inverse lengths.now store.now trace.old work.new result trace.new }
+    ensures same { SameRun trace.old trace.new }
 {
     let mut slots = [NO_SLOT; 1024];
     let total = usize::from(placed(h, parts, lengths, store.len() as u16, &mut slots));
     entry::work::copy_in(work, store);
     let p = h.procedures - 1;
     let body = records::procedure_at(parts.procedures, p).body;
-    executed(parts, inverse, p, body, &mut work[..total], &mut slots, run)
+    executed(
+        parts,
+        inverse,
+        p,
+        body,
+        &mut work[..total],
+        &mut slots,
+        trace,
+    )
 }
 
 // The end of a run: the store copied out where nothing was refused, and the work words cleared.
@@ -99,18 +107,18 @@ fn ran(
     lengths: &[u64],
     store: &mut [u64],
     work: &mut [u64],
-    run: &mut Run<'_>,
+    trace: &mut Trace<'_>,
 ) -> Verdict
-    requires begins { Begins work.old run.old }
-    requires left { run.old.left < 2 ^ 32 }
-    ensures ran { RanBy image.now inverse lengths.now store.old work.old run.old result store.new work.new run.new }
-    ensures same { SameRun run.old run.new }
+    requires begins { Begins work.old trace.old }
+    requires left { trace.old.run.left < 2 ^ 32 }
+    ensures ran { RanBy image.now inverse lengths.now store.old work.old trace.old result store.new work.new trace.new }
+    ensures same { SameRun trace.old trace.new }
 {
     checker::check(image)?;
     let h = records::header_of(image);
     let parts = records::parts_of(image);
     entry::refusals::entry_refusal(h, &parts, lengths, store, work.len())?;
-    let verdict = worked(h, &parts, inverse, lengths, store, work, run);
+    let verdict = worked(h, &parts, inverse, lengths, store, work, trace);
     finished(store, work, verdict);
     verdict
 }
@@ -130,15 +138,17 @@ pub fn run(
 {
     entry::work::clear(work);
     trace.fill(0);
-    let mut run = Run {
+    let mut trace = Trace {
         events: trace,
-        entries: 0,
-        left: budget,
+        run: Run {
+            entries: 0,
+            left: budget,
+        },
     };
-    let verdict = ran(image, inverse, lengths, store, work, &mut run);
+    let verdict = ran(image, inverse, lengths, store, work, &mut trace);
     Answer {
         verdict,
-        steps: budget - run.left,
-        entries: run.entries,
+        steps: budget - trace.run.left,
+        entries: trace.run.entries,
     }
 }

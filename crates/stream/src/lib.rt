@@ -43,7 +43,8 @@ impl<'a> Run<'a> {
         }
     }
 
-    // The line of the run. What it is lent is dirty, so that what it leaves there shows.
+    // The line of the run. What it is lent is dirty, so that what it leaves there shows. What stands before the arrow is written before the
+    // run, the rest behind it: the line of a run that is cut off ends at the store that it was given.
     fn tell(&self)
         requires { Fits self.now.head }
     {
@@ -61,7 +62,7 @@ impl<'a> Run<'a> {
         let direction = if head.inverse { "inverse" } else { "forward" };
         let given = Cells(store);
         Output.put(self.name);
-        let _ = write!(Output, " | {direction} | store{given} ->");
+        let _ = write!(Output, " | {direction} | store{given}");
         let answer = runner::run(
             self.image,
             head.inverse,
@@ -77,7 +78,7 @@ impl<'a> Run<'a> {
             work,
             trace,
         };
-        let _ = writeln!(Output, "{left}{told}");
+        let _ = writeln!(Output, " ->{left}{told}");
     }
 }
 

@@ -151,7 +151,7 @@ statements-loop-at-preserved t c =
     let sm = i.follows.chain c.loop-at-test.true in
     record {
       keeps = same_memory c.args.memory.now c.loop-at.memory c.statement-in-loop-at.new.memory i.keeps c.statement-in-loop-at.ensures.keeps;
-      same = same_run c.args.run.now c.loop-at.run c.statement-in-loop-at.new.run i.same c.statement-in-loop-at.ensures.same;
+      same = same_run c.args.trace.now c.loop-at.trace c.statement-in-loop-at.new.trace i.same c.statement-in-loop-at.ensures.same;
       follows = record {
         chain = rw c.next_at-at.ensures (next-chain sm);
         onward = omega (arith, next-behind sm, c.next_at-at.ensures, i.follows.onward);
@@ -166,13 +166,13 @@ statements-returns-clause-executes t c = follows_ends _ _ c.args.inverse _ _ _ _
 
 -- ---- the turns of a for
 
-pub turns-loop-run-init : goal.turns-loop-run-init
-turns-loop-run-init t c =
+pub turns-loop-trace-init : goal.turns-loop-trace-init
+turns-loop-trace-init t c =
     record {
       keeps = search rules;
       same = search rules;
       turning = record {
-        turns = c.args.run.now.left;
+        turns = c.args.trace.now.run.left;
         enough = omega arith;
         slots_long = rw c.put.ensures.keeps.1;
         turned = rw c.put.ensures.keeps.1 (turned-starts _ _ _ _ _ _ _);
@@ -181,50 +181,50 @@ turns-loop-run-init t c =
 
 pub turns-returns-in_err-step-clause-executes : goal.turns-returns-in_err-step-clause-executes
 turns-returns-in_err-step-clause-executes t c =
-    let i = c.loop-run.invariant in
+    let i = c.loop-trace.invariant in
     λ w ρ st fine.
     rw (passed_on _ c.from_residual.ensures.1) (loop_stops _ _ _ _ _ _ _ _ i.turning.turned i.turning.slots_long _ c.put.ensures.sets w ρ st fine _ _ _ _ (some_number c.in_err-step.field-0.0)
-    (λ st₁ k h. turn_refused _ _ c.args.it _ _ _ _ _ _ (λ e. c.loop-run-test.true (c.cell.ensures ∙ e)) k h _ _ (c.in_err-step.ensures.does c.loop-run.memory.cells.now) i.turning.enough (some_number c.in_err-step.field-0.0)))
+    (λ st₁ k h. turn_refused _ _ c.args.it _ _ _ _ _ _ (λ e. c.loop-trace-test.true (c.cell.ensures ∙ e)) k h _ _ (c.in_err-step.ensures.does c.loop-trace.memory.cells.now) i.turning.enough (some_number c.in_err-step.field-0.0)))
 
 pub turns-statement-requires : goal.turns-statement-requires
 turns-statement-requires t c =
-    (omega (arith, c.decreases, c.requires.1, c.requires.0.inside, c.requires.0.code.few), rw c.loop-run.invariant.keeps.0 (c.requires.0, c.requires.2))
+    (omega (arith, c.decreases, c.requires.1, c.requires.0.inside, c.requires.0.code.few), rw c.loop-trace.invariant.keeps.0 (c.requires.0, c.requires.2))
 
 pub turns-returns-in_err-statement-clause-executes : goal.turns-returns-in_err-statement-clause-executes
 turns-returns-in_err-statement-clause-executes t c =
-    let i = c.loop-run.invariant in
+    let i = c.loop-trace.invariant in
     λ w ρ st fine.
     rw (passed_on _ c.from_residual-in_err-statement.ensures.1)
     (loop_stops _ _ _ _ _ _ _ _ i.turning.turned i.turning.slots_long _ c.put.ensures.sets w ρ st fine _ _ _ _ (some_number c.in_err-statement.field-0.0)
-    (λ st₁ k h. body_refused _ _ c.args.it _ _ _ _ _ _ (λ e. c.loop-run-test.true (c.cell.ensures ∙ e)) k h _ _ (c.in_ok-step.ensures.does c.loop-run.memory.cells.now) (λ z. omega (arith, z, c.in_ok-step.ensures.fewer, i.turning.enough)) refl
+    (λ st₁ k h. body_refused _ _ c.args.it _ _ _ _ _ _ (λ e. c.loop-trace-test.true (c.cell.ensures ∙ e)) k h _ _ (c.in_ok-step.ensures.does c.loop-trace.memory.cells.now) (λ z. omega (arith, z, c.in_ok-step.ensures.fewer, i.turning.enough)) refl
     _ _ _ _ ((rw i.keeps.0 at c.in_err-statement.ensures.executes) w ρ st₁ fine) (some_number c.in_err-statement.field-0.0)))
 
 pub turns-returns-then-cell-it-clause-executes : goal.turns-returns-then-cell-it-clause-executes
 turns-returns-then-cell-it-clause-executes t c =
-    let i = c.loop-run.invariant in
+    let i = c.loop-trace.invariant in
     λ w ρ st fine.
     rw c.at.ensures (loop_stops _ _ _ _ _ _ _ _ i.turning.turned i.turning.slots_long _ c.put.ensures.sets w ρ st fine _ _ _ _ (λ e. omega (arith, e))
-    (λ st₁ k h. met_first _ _ c.args.it _ _ _ _ _ _ (λ e. c.loop-run-test.true (c.cell.ensures ∙ e)) k h _ _ (c.in_ok-step.ensures.does c.loop-run.memory.cells.now) (λ z. omega (arith, z, c.in_ok-step.ensures.fewer, i.turning.enough)) refl
-    _ _ _ _ ((rw i.keeps.0 at c.in_ok-statement.ensures.executes) w ρ st₁ fine) refl (sym c.cell-in-loop-run.ensures ∙ c.if-cell-it.true)))
+    (λ st₁ k h. met_first _ _ c.args.it _ _ _ _ _ _ (λ e. c.loop-trace-test.true (c.cell.ensures ∙ e)) k h _ _ (c.in_ok-step.ensures.does c.loop-trace.memory.cells.now) (λ z. omega (arith, z, c.in_ok-step.ensures.fewer, i.turning.enough)) refl
+    _ _ _ _ ((rw i.keeps.0 at c.in_ok-statement.ensures.executes) w ρ st₁ fine) refl (sym c.cell-in-loop-trace.ensures ∙ c.if-cell-it.true)))
 
-pub turns-loop-run-preserved : goal.turns-loop-run-preserved
-turns-loop-run-preserved t c =
-    let i = c.loop-run.invariant in
+pub turns-loop-trace-preserved : goal.turns-loop-trace-preserved
+turns-loop-trace-preserved t c =
+    let i = c.loop-trace.invariant in
     let fewer = c.in_ok-step.ensures.fewer in
     record {
-      keeps = same_memory c.args.memory.now c.loop-run.memory c.statement.new.memory i.keeps c.statement.ensures.keeps;
-      same = same_run c.args.run.now c.loop-run.run c.statement.new.run i.same (same_run c.loop-run.run c.step.new.self c.statement.new.run c.step.ensures.same c.statement.ensures.same);
+      keeps = same_memory c.args.memory.now c.loop-trace.memory c.statement.new.memory i.keeps c.statement.ensures.keeps;
+      same = same_run c.args.trace.now c.loop-trace.trace c.statement.new.trace i.same (same_run c.loop-trace.trace c.step.new.self c.statement.new.trace c.step.ensures.same c.statement.ensures.same);
       turning = record {
         turns = i.turning.turns - 1;
         enough = omega (arith, fewer, i.turning.enough, c.statement.ensures.same.1);
         slots_long = c.statement.ensures.keeps.4 ∙ i.turning.slots_long;
-        turned = turned_on _ _ _ _ _ _ _ _ i.turning.turned i.turning.slots_long (λ e. c.loop-run-test.true (c.cell.ensures ∙ e)) (λ z. omega (arith, z, fewer, i.turning.enough))
-            _ _ (c.in_ok-step.ensures.does c.loop-run.memory.cells.now) refl _ _ _ _ (rw i.keeps.0 at c.in_ok-statement.ensures.executes) refl (λ e. c.if-cell-it.false (c.cell-in-loop-run.ensures ∙ e));
+        turned = turned_on _ _ _ _ _ _ _ _ i.turning.turned i.turning.slots_long (λ e. c.loop-trace-test.true (c.cell.ensures ∙ e)) (λ z. omega (arith, z, fewer, i.turning.enough))
+            _ _ (c.in_ok-step.ensures.does c.loop-trace.memory.cells.now) refl _ _ _ _ (rw i.keeps.0 at c.in_ok-statement.ensures.executes) refl (λ e. c.if-cell-it.false (c.cell-in-loop-trace.ensures ∙ e));
       };
     }
 
 pub turns-returns-clause-executes : goal.turns-returns-clause-executes
 turns-returns-clause-executes t c =
-    let i = c.loop-run.invariant in
+    let i = c.loop-trace.invariant in
     λ w ρ st fine.
-    rw c.put-2.ensures.keeps.1 (loop_ends _ _ _ _ _ _ _ _ i.turning.turned i.turning.slots_long _ c.put.ensures.sets w ρ st fine (sym c.cell.ensures ∙ c.loop-run-test.false) _ c.put-2.ensures.sets)
+    rw c.put-2.ensures.keeps.1 (loop_ends _ _ _ _ _ _ _ _ i.turning.turned i.turning.slots_long _ c.put.ensures.sets w ρ st fine (sym c.cell.ensures ∙ c.loop-trace-test.false) _ c.put-2.ensures.sets)

@@ -22,23 +22,23 @@ decreases-turns l = turns_rank l.p l.it.node
 abbrev pub invariant-statements-loop-at : goal.invariant-statements-loop-at
 invariant-statements-loop-at l = record {
   keeps : SameMemory l.fn.memory l.memory;
-  same : SameRun l.fn.run l.run;
-  follows : Follows l.fn.memory.parts.nodes.now l.fn.memory.parts.procedures.now l.fn.memory.parts.variables.now l.fn.memory.parts.constants.now
-      (direction_of l.inverse) l.p l.n l.fn.memory.cells.now l.fn.memory.slots.now l.fn.run.events.now (going l.fn.run)
-      l.at l.memory.cells.now l.memory.slots.now l.run.events.now (going l.run);
+  same : SameRun l.fn.trace l.trace;
+  follows : Follows l.fn.memory.parts.now.nodes.now l.fn.memory.parts.now.procedures.now l.fn.memory.parts.now.variables.now l.fn.memory.parts.now.constants.now
+      (direction_of l.inverse) l.p l.n l.fn.memory.cells.now l.fn.memory.slots.now l.fn.trace.events.now (going l.fn.trace)
+      l.at l.memory.cells.now l.memory.slots.now l.trace.events.now (going l.trace);
 }
 
 abbrev pub decreases-statements-loop-at : goal.decreases-statements-loop-at
 decreases-statements-loop-at l = 65535 - l.at
 
-abbrev pub invariant-turns-loop-run : goal.invariant-turns-loop-run
-invariant-turns-loop-run l = record {
+abbrev pub invariant-turns-loop-trace : goal.invariant-turns-loop-trace
+invariant-turns-loop-trace l = record {
   keeps : SameMemory l.fn.memory l.memory;
-  same : SameRun l.fn.run l.run;
-  turning : Keeps l.fn.memory.parts.nodes.now l.fn.memory.parts.procedures.now l.fn.memory.parts.variables.now l.fn.memory.parts.constants.now
-      (direction_of l.inverse) l.p l.it l.initial.memory.cells.now l.fn.memory.slots.now l.fn.run.events.now (going l.fn.run)
-      l.memory.cells.now l.memory.slots.now l.run.events.now (going l.run);
+  same : SameRun l.fn.trace l.trace;
+  turning : Keeps l.fn.memory.parts.now.nodes.now l.fn.memory.parts.now.procedures.now l.fn.memory.parts.now.variables.now l.fn.memory.parts.now.constants.now
+      (direction_of l.inverse) l.p l.it l.initial.memory.cells.now l.fn.memory.slots.now l.fn.trace.events.now (going l.fn.trace)
+      l.memory.cells.now l.memory.slots.now l.trace.events.now (going l.trace);
 }
 
-abbrev pub decreases-turns-loop-run : goal.decreases-turns-loop-run
-decreases-turns-loop-run l = l.run.left
+abbrev pub decreases-turns-loop-trace : goal.decreases-turns-loop-trace
+decreases-turns-loop-trace l = l.trace.run.left

@@ -1,14 +1,7 @@
--- A condition that is worked out, and then a swap on it.
-use Rattle.expressions.specs.Commands.{exchanging_if}
-use Rattle.expressions.specs.Results.{passed_on, reads, reads_refused}
+-- Cells and slots are put back where they were taken.
+use mathlib.Core.Path.{refl, ap, ◌∙◌}
+use Rattle.std.specs.Prelude.{length}
 use Rattle.expressions.proofs.memory.Memory.conditional_swap.Goals as goal
 
-pub returns-in_err-v-clause-does : goal.returns-in_err-v-clause-does
-unfolding exchanging_if
-returns-in_err-v-clause-does c = λ h s p.
-    rw (passed_on _ c.from_residual.ensures.1, c.value.ensures.same.1) (reads_refused _ _ _ (c.in_err-v.ensures.finds h s p))
-
-pub returns-clause-does : goal.returns-clause-does
-unfolding exchanging_if
-returns-clause-does c = λ h s p.
-    reads _ _ _ (c.in_ok-v.ensures.finds h s p) (rw c.value.ensures.same.1 at (c.swap.ensures.does h s p))
+pub returns-clause-keeps : goal.returns-clause-keeps
+returns-clause-keeps c = (refl, c.take-slots.ensures.value, ap (λ r. r.ghost_name) c.take-cells.ensures.value, c.conditional_swap-verdict.auto.cells ∙ ap (λ r. length r.now) c.take-cells.ensures.value)

@@ -1,5 +1,0 @@
-use Prim.Native.Nat.{◌-◌}
-use Rattle.expressions.proofs.memory.Memory.+value.Given as goal
-
-abbrev pub decreases-value : goal.decreases-value
-decreases-value l = 65535 - l.n

@@ -1,6 +1,0 @@
--- The cell is written and emitted, as the rules change it.
-use Rattle.expressions.proofs.Laws.{change-done}
-use Rattle.expressions.proofs.memory.Memory.change.Goals as goal
-
-pub returns-clause-writes : goal.returns-clause-writes
-returns-clause-writes c = λ left. change-done _ _ _ (rw (c.updated.ensures, c.cell-x.ensures) at c.put.ensures.sets) c.push_cell.ensures.emits
