@@ -47,7 +47,7 @@ expression_case (Binary o a b) = true
 expression_case (Not a) = true
 expression_case (Argument l m) = false
 
--- Of a decoded node; a refusal is none of either class, and false≢true comes.
+-- Of a decoded node; a refusal is none of either class, and never comes.
 abbrev pub decoded_as : (Node → Bool) → Decoded → Bool
 decoded_as class (Ok x) = class x
 decoded_as class (Err r) = true

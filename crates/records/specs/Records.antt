@@ -28,6 +28,6 @@ as_variable v = record { kind = v.kind; secrecy = v.secrecy; size = v.size; zero
 abbrev pub as_node : RawNode → rules.Node
 as_node r = record { kind = r.kind; operator = r.operator; a = r.a; b = r.b; c = r.c; d = r.d; next = r.next }
 
--- An expression or L-value has a kind, an operator, a and b: the rest of its record is not read.
+-- An expression or L-value has a kind, an operator, a and b: the rest of its record decides nothing.
 abbrev pub headed : rules.Node → rules.Node
 headed r = record { kind = r.kind; operator = r.operator; a = r.a; b = r.b; c = 0; d = 0; next = 0 }

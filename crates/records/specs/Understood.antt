@@ -10,7 +10,7 @@ use Rattle.rules.specs.Tree.{expr_of, lvalue_of, stmt_of, reading_at}
 use Rattle.records.specs.Fits.{Child, Fits, fits, child, child_or_missing, next_lvalue_lem}
 use Rattle.records.specs.Reading.{stmt_reading, expr_reading, lvalue-reading, arguments-reading}
 use Rattle.records.specs.Cases.{place_of, value_of, node_of_lvalue, Named, Targeted, Means, Refers, Understood}
-use Rattle.records.specs.Decode.{lvalue_by, lvalue_at, Decoded, Decoded, with_target, expression_by, decoded_by, decoded_at, argument_at}
+use Rattle.records.specs.Decode.{lvalue_by, lvalue_at, Decoded, with_target, expression_by, decoded_by, decoded_at, argument_at}
 use Rattle.records.specs.declared.LValue.{LValue}
 use Rattle.records.specs.declared.Node as case
 use Rattle.records.specs.declared.refusal.Refusal.{Refusal}
