@@ -14,6 +14,7 @@ use Rattle.rules.specs.Image.{Header, Parts}
 use Rattle.rules.specs.Machine.{Slot, no_slot, Env}
 use Rattle.rules.specs.Run.{home, store_slots, env_of, last_of, sum}
 use Rattle.records.specs.Slots.{Table, slot_of}
+use Rattle.entry.specs.Refusals.{Called}
 use Rattle.entry.specs.Slots.{slots_placed}
 use Rattle.entry.proofs.Rows.{all_length, rows_at, rows_other, store_slot, sum-split}
 use Rattle.laws.specs.Records.{Placed, Typed, Sound}
@@ -44,6 +45,12 @@ pub formed : {forbidden : Binary → Bool} {h : Header} {s : Parts} → Sound fo
 formed f = record { some = f.some; narrow = f.narrow; procedure = f.procedure; variable = f.variable }
 
 module _ {h : Header} {s : Parts} (f : Formed h s) where
+  -- The last procedure can be called.
+  pub called : Called h s
+  called =
+      let q = f.procedure (h.procedures - 1) (omega (arith, f.some)) in
+      record { some = f.some; few = q.few; inside = omega (arith, q.end, q.parameters, f.narrow) }
+
   -- The home of every local is good.
   pub home-good : {works : ℕ} {lengths store : List ℕ} → Entered h s works lengths store → (y : ℕ) → y < h.variables → Good (home h s (length store) y)
   unfolding home

@@ -12,6 +12,7 @@ use Rattle.expressions.specs.declared.trace.Trace.{Trace}
 use Rattle.rules.specs.Form.{Verdict}
 use Rattle.rules.specs.Check.{slow, verdict}
 use Rattle.rules.specs.Run.{entry_refusal, execution}
+use Rattle.entry.proofs.Names.{formed, called}
 use Rattle.entry.specs.Refusals.{Called, entry_tests}
 use Rattle.laws.specs.Records.{sound}
 use Rattle.entry.proofs.Outcomes.{checked_first}
@@ -23,10 +24,7 @@ use Rattle.runner.proofs.Program.{keeps, inside, last_one}
 module _ (image : List ℕ) (passed : (verdict image).number ≡ 0) where
   pub last-called : Called (header_of image) (parts_of image)
   unfolding verdict
-  last-called =
-      let k = sound slow image passed in
-      let q = k.procedure ((header_of image).procedures - 1) (omega (arith, k.some)) in
-      record { some = k.some; few = q.few; inside = omega (arith, q.end, q.parameters, k.narrow) }
+  last-called = called (formed (sound slow image passed))
 
   module _ (works : ℕ) (lengths store : List ℕ) where
     -- "then 19 to 22 in order": they are the run's.
