@@ -1,6 +1,6 @@
 // The work words cleared, the store copied into them and back: functions, since docs/CONTRACTS.md names the three, and wrong answers of
-// `clear` and `copy_out` (last_word_left, store_from_the_last_word) are tried by name. The copies go cell by cell, since `copy_from_slice` of a
-// length that is not known asks the C library for memmove, which callers in C need not have.
+// `clear` and `copy_out` (last_word_left, store_from_the_last_word) are tried by name. The copies go cell by cell, since `copy_from_slice`
+// between two lent slices asks the C library for memmove, which callers in C need not have.
 ghost use Rattle.std.specs.Prelude.{◌≡◌, ◌≤◌, ◌++◌, length, replicate, take, drop};
 
 // Every word 0.
