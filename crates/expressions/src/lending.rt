@@ -76,7 +76,7 @@ pub fn arguments(
 }
 
 impl Memory<'_, '_, '_, '_> {
-    // What the arguments lend of it. Its slots are taken out while its cells are lent, as cells are in updates.rt.
+    // What the arguments lend of it. Cells and slots are taken out of it for the call, as in updates.rt.
     pub fn arguments(&mut self, trace: &mut Trace<'_>, y: usize, n: u16) -> Verdict
         requires chained { Chained self.old.parts.now.nodes.now n }
         requires n_bound { y + (65535 - n) < 1048576 }

@@ -1,7 +1,7 @@
 // What a run reads and writes: the image's parts, the cells, and where each variable's cells are.
 // `Reading` asks for nothing to write; a function that writes cells or slots asks for these alone, as a slice. `Memory`, which the cycle goes
 // by, has both to write, and its methods hand on what each function asks for.
-// A frame (`KeepsSlots`, `SameSteps`, `SameRun`) says of a lent struct, before and after, what a call leaves as it was.
+// A frame (`KeepsSlots`, `KeepsCells`, `SameSteps`, `SameRun`) says of a lent struct, before and after, what a call leaves as it was.
 // It stands with each function: a type's invariant knows one moment alone.
 ghost use Rattle.std.specs.Prelude.{◌≡◌, ◌≤◌, ◌<◌, ◌*◌, get_or, set, length};
 ghost use Rattle.rules.specs.Machine.{load};

@@ -1,7 +1,7 @@
 // The statements that change cells: update, swap and conditional swap, once their step is taken.
 // What is known of a number, and what a call leaves as it was, stands in each clause: the reasons are at `value`, at `loaded`, and at the head of memory.rt.
-// Each is a function that writes cells and reads slots, and a method of `Memory`, which hands both on: the cells are taken out of it while
-// its slots are lent, since one field behind a reference is lent at a time.
+// Each is a function that writes cells and reads slots, and a method of `Memory`, which hands both on: they are taken out of it for the call,
+// since one field behind a reference is lent at a time.
 ghost use Rattle.std.specs.Prelude.{◌≡◌, ℕ, ◌≤◌, ◌<◌};
 ghost use Rattle.rules.specs.Words.{update_of, changed_by, going};
 ghost use Rattle.rules.specs.Image.{Header, Parts, is_expression};
